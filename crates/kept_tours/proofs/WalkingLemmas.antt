@@ -6,6 +6,7 @@ use Rattle.std.specs.Prelude.{ℤ, ◌≤ℤ◌, int_lt}
 use Rattle.std.proofs.lemmas.Int.{ints}
 use Rattle.call_sets.specs.Counting.{has}
 use Rattle.elevator_model.specs.declared.Move.{Move}
+use Rattle.elevator_model.specs.Snapshot.{Snapshot}
 use Rattle.elevator_model.specs.Partial.{Course, boards_allowed, move_on, move_on_from}
 use Rattle.search_model.specs.Orders.{AreAllowed}
 use Rattle.partial_tours.specs.PartialTour.{PartialTour, course, with_move}
@@ -54,6 +55,13 @@ not_below b worth le = grind (arith, ints)
 -- where a partial tour with one move more leads
 pub moved_on : (t : PartialTour) (m : Move) (x y : Course) → course t ≡ Some x → course (with_move t m) ≡ Some y → move_on t.snapshot t.car x m ≡ Some y
 moved_on t m x y here there = sym (course_more t.snapshot t.car t.moves m ∙ ap (λ (o : Option Course). move_on_from t.snapshot t.car o m) here) ∙ there
+
+-- a move of the partial tour is one for the aim
+pub aimed_move : (a : Aim) (t : PartialTour) (x y : Course) (m : Move) → AimsAt a t → course t ≡ Some x → course (with_move t m) ≡ Some y
+    → move_on a.snapshot a.car x m ≡ Some y
+aimed_move a t x y m aims here there =
+    subst (λ (s : Snapshot). move_on s a.car x m ≡ Some y) (sym aims.snapshot)
+    (subst (λ (c : ℕ). move_on t.snapshot c x m ≡ Some y) (sym aims.car) (moved_on t m x y here there))
 
 -- a partial tour that some tour begins with, and what stands there, reach it
 pub reached_there : (a : Aim) (stands : Course → Type 0) (demand : Demand) (t : PartialTour) → IsWalking a demand t → IsOpen stands demand t

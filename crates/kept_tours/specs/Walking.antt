@@ -13,7 +13,7 @@ use Rattle.partial_tours.specs.Courses.{may_be_next}
 use Rattle.partial_tours.specs.Followers.{ArePassing}
 use Rattle.tour_extension.specs.declared.demands.Demand.{Demand}
 use Rattle.tour_extension.specs.Leaves.{is_useless}
-use Rattle.pricing_bound.specs.Aims.{Aim}
+use Rattle.pricing_bound.specs.Aims.{Aim, IsUpTo}
 use Rattle.kept_tours.specs.Kept.{is_kept_by}
 
 -- the car of a partial tour with what is asked of it
@@ -43,6 +43,10 @@ pub record IsOpen (stands : Course → Type 0) (demand : Demand) (t : PartialTou
 abbrev pub IsShut : Demand → PartialTour → Type 0
 IsShut demand t = (x : Course) → course t ≡ Some x → goes_on t demand x ≡ false
 
+-- Nothing is left for the worth: no tour of the node begins with the partial tour, or the worth is at most its bound.
+abbrev pub IsLeftOut : Demand → (bounds : ℤ → Course → Type 0) → (worth : ℤ) → PartialTour → Type 0
+IsLeftOut demand bounds worth t = (x : Course) → course t ≡ Some x → goes_on t demand x ≡ true → IsUpTo bounds worth x
+
 -- It is not one of those that are kept for the worth: no tour of the node begins with it, or its bound is not below.
 abbrev pub IsNotKept : Demand → (bound : Course → ℤ) → (worth : ℤ) → PartialTour → Type 0
 IsNotKept demand bound worth t =
@@ -62,10 +66,9 @@ pub record AreFollowersLeft (demand : Demand) (no_leaves : Bool) (t : PartialTou
   pub shut : no_leaves ≡ false → (m : Move) → stays m ≡ false → IsShut demand (with_move t m)
   pub useful : (m : Move) → is_useless t.snapshot t.car x (has demand.allowed) m ≡ true → stays m ≡ false
 
--- They are the moves that may follow, without some after which the partial tour is not kept for the worth: the useless
--- leaves are among these.
-pub record AreFollowersBelow (demand : Demand) (bound : Course → ℤ) (worth : ℤ) (t : PartialTour) (x : Course) (next : Followers) : Type 0 where
+-- They are the moves that may follow, without some that are out: the useless leaves are among these.
+pub record AreFollowersBut (Out : Move → Type 0) (demand : Demand) (t : PartialTour) (x : Course) (next : Followers) : Type 0 where
   pub stays : Move → Bool
   pub passing : ArePassing t.snapshot (λ m. may_be_next t.snapshot t.car x (has demand.allowed) m && stays m) next
-  pub out : (m : Move) → stays m ≡ false → IsNotKept demand bound worth (with_move t m)
+  pub out : (m : Move) → stays m ≡ false → Out m
   pub useful : (m : Move) → is_useless t.snapshot t.car x (has demand.allowed) m ≡ true → stays m ≡ false

@@ -1,19 +1,21 @@
 //! The kept partial tours of a car, and how many they are: those that some tour of a node begins with and
 //! whose bound is below a worth. A checker of claims and whoever states them walk over them and count them in
-//! one way; with a search this shares what holds at each partial tour, and `followers_left`.
+//! one way; with a search this shares what holds at each partial tour, and the steps of a walk.
 //!
 //! Prices, values and worths are in thousandths of a cost unit. Cars and calls are named by their index.
 //!
 //! # What is promised
 //!
-//! - `step_below` is one move of a walk over the kept partial tours for a worth, for any `CompletionBound`:
-//!   the move is made and the bound's sums are given, or neither; neither only where the longer partial tour
-//!   is not kept. It tests first a leave by the departure, then the bound, since neither needs a move.
+//! - `step_below` is one move of a walk for a worth, for any `TourBound`: the move is made and the bound's sums
+//!   are given, or neither; neither only where no tour of the node begins with the longer partial tour, or
+//!   the worth is at most its bound (`IsLeftOut`). So for a checker it is not kept, and for a search no tour
+//!   that begins with it is worth less. It tests first a leave by the departure, then the bound, since
+//!   neither needs a move.
 //! - `followers_left` has the moves that may follow a partial tour, but for all leaves where these are left
 //!   out, and else but for the useless ones (`AreFollowersLeft`).
-//! - `followers_below` has the moves that may follow, but for some after which the partial tour is not kept
-//!   for the worth, among them all useless leaves; it has no leave where the departure refuses all
-//!   (`AreFollowersBelow`).
+//! - `followers_below` has the moves that may follow, but for some after which nothing is left for the worth
+//!   in this sense, among them all useless leaves; it has no leave where the departure refuses all
+//!   (`AreFollowersBut`).
 //! - `kept_law`: the kept list has exactly the kept partial tours, in the order of moves, each once.
 //! - `Desk::lay_out` takes the prices, worths and claims of a whole leaf: `Holds` (`specs/Counting.antt`)
 //!   says that they are those that the definitions read in the leaf. `Desk::stake` has what the leaf states
@@ -27,7 +29,7 @@
 //!   what they sum up to.
 //!
 //! What holds at each partial tour of a walk is `IsWalking` and `IsOpen` (`specs/Walking.antt`), and neither
-//! a walk nor a loop over it knows which bound it is: `B: CompletionBound` is resolved when the program is
+//! a walk nor a loop over it knows which bound it is: `B: TourBound` is resolved when the program is
 //! compiled. `proofs/Followers.antt` has the moves that may follow, place by place, `proofs/ListLemmas.antt`
 //! what a partial tour's lists are made of (itself, and those of its followers), and `proofs/EndLemmas.antt`
 //! that an ended partial tour is one tour, but for the order of boards at a stop.
@@ -45,10 +47,10 @@ mod counts;
 mod desks;
 mod entries;
 mod guides;
-mod kept_steps;
 mod leaves;
 mod onward;
 mod scan;
+mod steps;
 mod visits;
 mod walk;
 
@@ -59,9 +61,9 @@ pub use counts::Count;
 pub use desks::{Desk, desks_for};
 pub use entries::Stake;
 pub use guides::Guide;
-pub use kept_steps::{followers_below, step_below};
 pub use leaves::{is_whole, sum_of_leaf};
 pub use onward::followers_left;
+pub use steps::{followers_below, step_below};
 
 /// A law: for any bound that grows along the moves, the kept list has exactly the kept partial tours, in the
 /// order of moves, each once.

@@ -6,7 +6,7 @@ ghost use Rattle.kept_tours.specs.Walking.{IsWalking, IsOpen, MayFollow};
 ghost use Rattle.kept_tours.specs.Visiting.{GoesBack, Visited};
 
 use crate::guides::Guide;
-use crate::kept_steps::{followers_below, step_below};
+use crate::steps::{followers_below, step_below};
 use crate::visits::Visits;
 use elevator_model::Move;
 use partial_tours::Prefix;

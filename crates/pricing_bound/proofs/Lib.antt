@@ -8,4 +8,3 @@ pub mod CarriedLemmas
 pub mod SteadyLemmas
 pub mod NearLemmas
 mod FoundCosts
-mod CompletionLemmas

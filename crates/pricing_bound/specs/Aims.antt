@@ -51,6 +51,10 @@ pub record HasEnded (stands : Course → Type 0) (t : PartialTour) : Type 0 wher
 abbrev pub IsBoundSize : ℤ → Type 0
 IsBoundSize bound = (neg_ℤ (pos (10 ^ 27)) ≤ℤ bound) × (bound ≤ℤ pos (10 ^ 27))
 
+-- The worth is at most some value of a bound where a partial tour leads.
+abbrev pub IsUpTo : (bounds : ℤ → Course → Type 0) → (worth : ℤ) → Course → Type 0
+IsUpTo bounds worth x = (value : ℤ) × (worth ≤ℤ value) × bounds value x
+
 -- the value of a tour for the aim
 abbrev pub value_for : Aim → List Stop → ℤ
 value_for a tour = value_of a.snapshot a.car a.price tour

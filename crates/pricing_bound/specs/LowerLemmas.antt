@@ -24,9 +24,11 @@ use Rattle.search_model.proofs.SumLemmas.{int_sum-le, int_sum-same, int_sum-zero
 use Rattle.tour_rules.proofs.Reached.{ended_at, moves_on-append, moves_reach, risen}
 use Rattle.tour_rules.proofs.Sound.{IsSound-moves, IsSound-start, leads_on}
 use Rattle.partial_tours.proofs.Boarded.{boarded_in}
+use Rattle.pricing_bound.specs.Aims.{Aim, completion_bound_for, value_for}
 use Rattle.pricing_bound.specs.Costs.{low_zero}
 use Rattle.pricing_bound.specs.Standing.{IsStanding, course_standing, standing_move}
 use Rattle.pricing_bound.specs.GrowthLemmas.{grows_on}
+use Rattle.pricing_bound.specs.Undercutting.{UndercutsNone}
 
 -- ---- the moves of a tour board its calls
 
@@ -136,3 +138,8 @@ bound_is_lower s c price allowed required moves x tour a b leads begins within =
   where
     through : (t u v : ℤ) → t ≤ℤ u → u ≤ℤ v → t ≤ℤ v
     through t u v h k = omega (arith, ints, h, k)
+
+-- the same in the words of an aim
+pub bound_undercuts : (a : Aim) (value : ℤ) (x : Course) → value ≡ completion_bound_for a x → UndercutsNone a value x
+bound_undercuts a value x is = λ moves ok car leads tour begins within.
+    subst (λ (z : ℤ). z ≤ℤ value_for a tour) (sym is) (bound_is_lower a.snapshot a.car a.price a.allowed a.required moves x tour ok car leads begins within)

@@ -1,52 +1,27 @@
-//! A completion bound as a bound of a search.
+//! Completion bounds.
 
-use crate::running::CompletionBound;
+ghost use Rattle.std.specs.Prelude.{◌≡◌, ◌↔◌, ◌≤ℤ◌, ℤ};
+ghost use Rattle.elevator_model.specs.Partial.{Course};
+ghost use Rattle.pricing_bound.specs.Aims.{IsAtLeastSettled, IsGrowing, IsNarrower};
+
 use crate::tour_bound::TourBound;
-use elevator_model::Move;
-use partial_tours::Prefix;
 
-/// A completion bound, of which a search needs less than a checker.
-#[derive(Drop)]
-pub struct FromCompletion<'a, B: CompletionBound> {
-    pub bound: &'a B,
-}
+/// A completion bound of the partial tours of one car: one value where each of them leads, which grows along
+/// the moves. So a checker visits exactly the partial tours whose bound is below a worth.
+pub trait CompletionBound: TourBound {
+    /// The bound where a partial tour leads.
+    ghost bound: { Self → Course → ℤ };
 
-impl<'a, B: CompletionBound> TourBound for FromCompletion<'a, B> {
-    type Sums = B::Sums;
+    /// It has no other value there.
+    ghost exact: { (it : Self) (value : ℤ) (x : Course) → Self.bounds it value x ↔ (value ≡ bound it x) };
 
-    type Departure = B::Departure;
+    /// One move more makes the bound no smaller.
+    ghost grows: { (it : Self) → IsGrowing (Self.aim it) (bound it) };
 
-    ghost aim = { λ it. B.aim it.bound.now };
+    /// The bound is at least what is settled without what the prices can take from it.
+    ghost least: { (it : Self) → IsAtLeastSettled (Self.aim it) (bound it) };
 
-    ghost stands = { λ it sums x. B.stands it.bound.now sums x };
-
-    ghost departs = { λ it departure x. B.departs it.bound.now departure x };
-
-    fn start(&self, prefix: &Prefix) -> B::Sums {
-        self.bound.start(prefix)
-    }
-
-    fn after(&self, prefix: &Prefix, sums: &B::Sums, next: Move) -> B::Sums {
-        self.bound.after(prefix, sums, next)
-    }
-
-    fn depart(&self, prefix: &Prefix, sums: &B::Sums) -> B::Departure {
-        self.bound.depart(prefix, sums)
-    }
-
-    fn least_value(&self, departure: &B::Departure) -> i128 {
-        self.bound.least_value(departure)
-    }
-
-    fn arrive(&self, prefix: &Prefix, departure: &B::Departure, floor: u32) -> B::Sums {
-        self.bound.arrive(prefix, departure, floor)
-    }
-
-    fn value(&self, sums: &B::Sums) -> i128 {
-        self.bound.value(sums)
-    }
-
-    fn tour_value(&self, prefix: &Prefix, sums: &B::Sums) -> i128 {
-        self.bound.tour_value(prefix, sums)
-    }
+    /// Fewer allowed and more required calls make the bound no smaller.
+    ghost narrow: { (it narrower : Self) → IsNarrower (Self.aim it) (Self.aim narrower) → (x : Course)
+        → bound it x ≤ℤ bound narrower x };
 }

@@ -11,17 +11,15 @@
 //!   at most the value of each feasible tour that begins with the partial tour, boards the required calls and
 //!   allowed ones only; at most the bound of each longer partial tour that boards allowed calls only, and of
 //!   each with fewer allowed and more required calls; at least what is settled, less the prices.
-//! - `CompletionBound`, what every completion bound has to keep that goes with the moves of a partial tour,
-//!   for an `Aim` (`specs/Aims.antt`: car, prices, allowed and required calls): the sums after a move from
-//!   those before it, without the move; of those the bound, of absolute value at most 10^27, and after the
-//!   end the tour's value; what is kept of a car that departs, from which come the sums at each next stop and
-//!   a value that the bound at none of them is below; and the four laws.
-//! - `TourBound`, what a search asks of any bound, for such an `Aim`, which is less: the sums of the empty
-//!   partial tour, and those after a move from those before it, without the move; a value of such sums, of
-//!   absolute value at most 10^27, that is at most the value of each tour for the aim which begins with the
-//!   partial tour (`UndercutsNone`); and after the end the tour's value. Nothing else is asked: a bound need
-//!   not grow along the moves, nor be a function of where they lead. `FromCompletion`: each completion bound,
-//!   with which a checker walks, is one.
+//! - `TourBound`, what a walk asks of any bound, for an `Aim` (`specs/Aims.antt`: car, prices, allowed and
+//!   required calls): the sums of the empty partial tour, and those after a move from those before it,
+//!   without the move; of those a value (`bounds`), of absolute value at most 10^27, that is at most the value
+//!   of each tour for the aim which begins with the partial tour (`UndercutsNone`), and after the end the
+//!   tour's value; and what is kept of a car that departs, from which come the sums at each next stop and a
+//!   value that the bound at none of them is below. This is all that a search asks: a bound need not grow
+//!   along the moves, nor be a function of where they lead.
+//! - `CompletionBound`, what a checker asks beside it: the value is a function of where the partial tour
+//!   leads (`bound`, `exact`), and has the other three laws.
 //! - `StraightRides`: `bound`, kept as running sums, meets all this. A move takes no memory and goes over no
 //!   list of calls, groups or floors.
 //! - `Rates::lay_out` has the rates of the calls at new prices, in the same memory.
@@ -71,14 +69,12 @@ mod completion;
 mod parts;
 mod rates;
 mod rides;
-mod running;
 mod straight;
 mod tour_bound;
 mod waiting;
 
 pub use bounds::bound;
-pub use completion::FromCompletion;
+pub use completion::CompletionBound;
 pub use rates::Rates;
-pub use running::CompletionBound;
 pub use straight::{StraightRides, Sums};
 pub use tour_bound::TourBound;

@@ -16,13 +16,14 @@ ghost use Rattle.pricing_bound.specs.Running.{AreDeparting, AreEven, IsEven, Sta
 ghost use Rattle.search_model.specs.Prices.{price_at};
 ghost use Rattle.search_model.proofs.BoundLemmas.{bound_is_at_least};
 ghost use Rattle.pricing_bound.specs.GrowthLemmas.{bound_grows};
-ghost use Rattle.pricing_bound.specs.LowerLemmas.{bound_is_lower};
+ghost use Rattle.pricing_bound.specs.LowerLemmas.{bound_undercuts};
 ghost use Rattle.pricing_bound.specs.Narrowing.{narrowed};
 
 use crate::bounds::groups_part;
 use crate::carried::cost_of_carried;
+use crate::completion::CompletionBound;
 use crate::rates::Rates;
-use crate::running::CompletionBound;
+use crate::tour_bound::TourBound;
 use crate::waiting::{Growth, Waiting};
 use call_sets::CallSet;
 use elevator_model::{LATEST_MOMENT, MOMENT_LIMIT, MOST_COST, Move};
@@ -411,7 +412,7 @@ impl<'a> StraightRides<'a> {
     }
 }
 
-impl<'a> CompletionBound for StraightRides<'a> {
+impl<'a> TourBound for StraightRides<'a> {
     type Sums = Sums;
 
     /// The sums of the car as it departs.
@@ -419,11 +420,12 @@ impl<'a> CompletionBound for StraightRides<'a> {
 
     ghost aim = { λ it. aim_at it.rates.now it.car it.allowed it.required };
 
-    ghost bound = { λ it x. completion_bound_for (aim_at it.rates.now it.car it.allowed it.required) x };
-
     ghost stands = { λ it sums x. StandFor (aim_at it.rates.now it.car it.allowed it.required) sums x };
 
     ghost departs = { λ it departing x. AreDeparting (aim_at it.rates.now it.car it.allowed it.required) departing x };
+
+    ghost bounds = { λ it value x. value
+        ≡ completion_bound_for (aim_at it.rates.now it.car it.allowed it.required) x };
 
     fn start(&self, prefix: &Prefix) -> Sums {
         // For the proof: the car is one of the snapshot's, and the moves are lawful.
@@ -462,9 +464,13 @@ impl<'a> CompletionBound for StraightRides<'a> {
         scaled(prefix.settled()) - sums.paid
     }
 
-    ghost lower = { λ it moves x tour. bound_is_lower
-        (aim_at it.rates.now it.car it.allowed it.required).snapshot it.car (price_at it.rates.now.prices)
-        (has it.allowed) (has it.required) moves x tour };
+    ghost lower = { λ it. bound_undercuts (aim_at it.rates.now it.car it.allowed it.required) };
+}
+
+impl<'a> CompletionBound for StraightRides<'a> {
+    ghost bound = { λ it x. completion_bound_for (aim_at it.rates.now it.car it.allowed it.required) x };
+
+    ghost exact = { λ it value x. (λ is. is, λ is. is) };
 
     ghost grows = { λ it moves x y m. bound_grows it.rates.now.snapshot it.car (price_at it.rates.now.prices)
         (has it.allowed) (has it.required) moves x y m };

@@ -1,11 +1,11 @@
-//! What a search asks of a lower bound of partial tours.
+//! What a walk asks of a lower bound of partial tours.
 
-ghost use Rattle.std.specs.Prelude.{◌≡◌, ℕ, [], Some};
+ghost use Rattle.std.specs.Prelude.{◌≡◌, ℕ, ℤ, [], Some};
 ghost use Rattle.elevator_model.specs.Partial.{Course, move_on};
 ghost use Rattle.elevator_model.specs.declared.Move.{Move as MoveValue};
 ghost use Rattle.partial_tours.specs.PartialTour.{course, with_move};
 ghost use Rattle.pricing_bound.specs.Aims.{Aim, AimsAt, HasEnded, HasReached, IsBoundSize, IsNextMove};
-ghost use Rattle.pricing_bound.specs.Aims.{value_for};
+ghost use Rattle.pricing_bound.specs.Aims.{IsUpTo, value_for};
 ghost use Rattle.pricing_bound.specs.Undercutting.{UndercutsNone};
 
 use elevator_model::Move;
@@ -33,6 +33,9 @@ pub trait TourBound {
     /// It is the departure from where a partial tour leads.
     ghost departs: { Self → Self.Departure → Course → Type 0 };
 
+    /// The value is one of the bound's where a partial tour leads.
+    ghost bounds: { Self → ℤ → Course → Type 0 };
+
     /// The sums of the empty partial tour.
     fn start(&self, prefix: &Prefix) -> Self::Sums
         requires for_it { AimsAt (aim self.now) prefix.now }
@@ -52,11 +55,12 @@ pub trait TourBound {
         requires reached { HasReached (aim self.now) (stands self.now sums.now) prefix.now }
         ensures { (x : Course) → course prefix.now ≡ Some x → departs self.now result x };
 
-    /// A value that no tour for the aim undercuts which goes on from the departure to a stop.
+    /// A value that the bound at no next stop is below, of absolute value at most 10^27.
     fn least_value(&self, departure: &Self::Departure) -> i128
-        ensures { (x y : Course) (floor : ℕ) → departs self.now departure.now x
+        ensures least { (x y : Course) (floor : ℕ) → departs self.now departure.now x
             → move_on (aim self.now).snapshot (aim self.now).car x (MoveValue.Leave floor) ≡ Some y
-            → UndercutsNone (aim self.now) result y };
+            → IsUpTo (bounds self.now) result y }
+        ensures size { (x : Course) → departs self.now departure.now x → IsBoundSize result };
 
     /// The sums after the car goes to a stop, from its departure. The move has not to be made for it.
     fn arrive(&self, prefix: &Prefix, departure: &Self::Departure, floor: u32) -> Self::Sums
@@ -66,10 +70,9 @@ pub trait TourBound {
         ensures { (y : Course) → course (with_move prefix.now (MoveValue.Leave floor)) ≡ Some y
             → stands self.now result y };
 
-    /// The bound: a value, of absolute value at most 10^27, that no tour for the aim undercuts which begins
-    /// with the partial tour.
+    /// The bound, of absolute value at most 10^27.
     fn value(&self, sums: &Self::Sums) -> i128
-        ensures lower { (x : Course) → stands self.now sums.now x → UndercutsNone (aim self.now) result x }
+        ensures value { (x : Course) → stands self.now sums.now x → bounds self.now result x }
         ensures size { (x : Course) → stands self.now sums.now x → IsBoundSize result };
 
     /// The value of the tour of a partial tour that has ended, of absolute value at most 10^27.
@@ -79,4 +82,8 @@ pub trait TourBound {
         ensures value { (x : Course) → course prefix.now ≡ Some x
             → result ≡ value_for (aim self.now) x.left }
         ensures size { IsBoundSize result };
+
+    /// No tour for the aim that begins with a partial tour undercuts a value of the bound.
+    ghost lower: { (it : Self) (value : ℤ) (x : Course) → bounds it value x
+        → UndercutsNone (aim it) value x };
 }

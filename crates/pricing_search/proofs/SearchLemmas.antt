@@ -16,8 +16,8 @@ use Rattle.search_model.specs.Orders.{BeginsWith, move_limit, any_course, partia
 use Rattle.tour_rules.proofs.Measure.{lawful_short}
 use Rattle.partial_tours.specs.PartialTour.{PartialTour, course}
 use Rattle.tour_extension.specs.declared.demands.Demand.{Demand}
-use Rattle.pricing_bound.specs.Aims.{Aim, AimsAt, IsBoundSize, IsLower, value_for}
-use Rattle.pricing_bound.specs.Undercutting.{HasNoneBelow}
+use Rattle.pricing_bound.specs.Aims.{Aim, AimsAt, IsBoundSize, value_for}
+use Rattle.pricing_bound.specs.Undercutting.{HasNoneBelow, UndercutsNone}
 use Rattle.kept_tours.specs.Walking.{aim_at, IsWalking, IsOpen}
 use Rattle.kept_tours.proofs.ListLemmas.{own_one}
 use Rattle.pricing_search.specs.declared.progress.Progress.{Progress}
@@ -51,14 +51,14 @@ open_first stands demand t empty there =
     record { at = course_start t.snapshot t.car; leads = at; stands_there = there (course_start t.snapshot t.car) at; extends = refl }
 
 -- a lower bound of the empty partial tour has no tour below it
-pub empty_lower : (a : Aim) (t : PartialTour) (bound : Course → ℤ) (value : ℤ) → IsAccepted t.snapshot → t.car < car_count t.snapshot → AimsAt a t
-    → IsLower a bound → value ≡ bound (course_start t.snapshot t.car) → HasNoneBelow a value []
-empty_lower a t bound value ok below aims lower is = λ tour begins within.
+pub empty_lower : (a : Aim) (t : PartialTour) (value : ℤ) → IsAccepted t.snapshot → t.car < car_count t.snapshot → AimsAt a t
+    → UndercutsNone a value (course_start t.snapshot t.car) → HasNoneBelow a value []
+empty_lower a t value ok below aims none =
     let accepted = subst IsAccepted (sym aims.snapshot) ok in
     let car = subst (λ (s : Snapshot). a.car < car_count s) (sym aims.snapshot) (subst (λ (c : ℕ). c < car_count t.snapshot) (sym aims.car) below) in
     let start : course_start a.snapshot a.car ≡ course_start t.snapshot t.car = ap (λ (s : Snapshot). course_start s a.car) aims.snapshot
     ∙ ap (course_start t.snapshot) aims.car in
-    subst (λ (z : ℤ). z ≤ℤ value_for a tour) (sym is) (lower [] (course_start t.snapshot t.car) tour accepted car (ap Some start) begins within)
+    none [] accepted car (ap Some start)
 
 -- ---- the answer
 

@@ -10,8 +10,9 @@
 //!
 //! First a dive goes from each partial tour to the follower that promises most, to a first tour (`dive`;
 //! there always is a follower, by `step_forth`). Then `visit` walks depth first, to near stops first, and
-//! passes by what has a bound not below the best value. Any bound serves that is never above the value of a
-//! tour (`TourBound`); it need not grow along the moves. Its contract is one record, `Visited`
+//! passes by what has a bound not below the best value, by the steps that it shares with a checker
+//! (`kept_tours`). Any bound serves that is never above the value of a tour (`TourBound`); it need not grow
+//! along the moves. Its contract is one record, `Visited`
 //! (`specs/Walks.antt`), over every worth that may still be answered: no tour that begins with this partial
 //! tour has a value below it, and no more were visited than there are lawful ones. So a later fall of the
 //! best value needs no lemma, and what is left out only has to have no tour below it (`IsVain`). Once the
@@ -22,7 +23,6 @@
 
 mod dive;
 mod found;
-mod guides;
 mod least;
 mod order;
 mod progress;

@@ -10,10 +10,10 @@ ghost use Rattle.kept_tours.specs.Walking.{aim_at};
 ghost use Rattle.pricing_search.specs.Searches.{IsSearched};
 
 use crate::dive::dive;
-use crate::guides::Guide;
 use crate::progress::Progress;
 use crate::walk::visit;
 use assign_branch::Priced;
+use kept_tours::Guide;
 use partial_tours::Prefix;
 use pricing_bound::TourBound;
 use tour_extension::Demand;

@@ -16,7 +16,7 @@ use call_state::Snapshot;
 use elevator_model::Tour;
 use partial_tours::{Prefix, tour_of};
 use price_scale::Price;
-use pricing_bound::{FromCompletion, Rates, StraightRides};
+use pricing_bound::{Rates, StraightRides};
 use route_sums::{RouteRates, RouteSums};
 use std::alloc::{AllocError, Global};
 use tour_extension::Demand;
@@ -80,7 +80,6 @@ impl<'a> Searcher<'a> {
         let _priced = desk.rates.snapshot();
         let rides = StraightRides::new(&desk.rates, car, demand.allowed, demand.required);
         let least = least_worth(&rides, &desk.prefix);
-        let dive_bound = FromCompletion { bound: &rides };
         let walk_bound = RouteSums::new(
             self.snapshot,
             &desk.route_rates,
@@ -90,7 +89,7 @@ impl<'a> Searcher<'a> {
             demand.required,
         );
         search(
-            &dive_bound,
+            &rides,
             &walk_bound,
             &demand,
             limit,

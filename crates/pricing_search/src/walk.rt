@@ -5,11 +5,10 @@ ghost use Rattle.partial_tours.specs.PartialTour.{with_move};
 ghost use Rattle.kept_tours.specs.Walking.{IsWalking, IsOpen, MayFollow, aim_at};
 ghost use Rattle.pricing_search.specs.Walks.{HasFound, Visited};
 
-use crate::guides::Guide;
 use crate::order::nearest;
 use crate::progress::Progress;
-use crate::steps::{followers_below, step_below};
 use elevator_model::Move;
+use kept_tours::{Guide, followers_below, step_below};
 use partial_tours::Prefix;
 use pricing_bound::TourBound;
 

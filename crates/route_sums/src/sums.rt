@@ -7,6 +7,7 @@ ghost use Rattle.elevator_model.specs.Snapshot.{call_count, car_count};
 ghost use Rattle.elevator_model.specs.declared.Move.{Move as MoveValue};
 ghost use Rattle.partial_tours.specs.PartialTour.{course, with_move};
 ghost use Rattle.pricing_bound.specs.Aims.{AimsAt, IsBoundSize, IsNextMove};
+ghost use Rattle.pricing_bound.specs.Undercutting.{UndercutsNone};
 ghost use Rattle.price_scale.specs.Scale.{IsPrice, IsPriceSum};
 ghost use Rattle.search_model.specs.Prices.{price_at, scaled as scaled_lem};
 ghost use Rattle.route_sums.specs.CallRates.{IsLaidOut};
@@ -147,6 +148,8 @@ impl<'a, 'r, 'p> TourBound for RouteSums<'a, 'r, 'p> {
 
     ghost departs = { λ it sums x. AreRouteSums (aim_of it) sums x };
 
+    ghost bounds = { λ it value x. UndercutsNone (aim_of it) value x };
+
     fn start(&self, prefix: &Prefix) -> Sums {
         let stand = stand_at(prefix);
         let start = self.route_start(prefix, None, &stand);
@@ -189,4 +192,6 @@ impl<'a, 'r, 'p> TourBound for RouteSums<'a, 'r, 'p> {
     fn tour_value(&self, prefix: &Prefix, sums: &Sums) -> i128 {
         value_of(prefix.settled(), sums.paid)
     }
+
+    ghost lower = { λ it value x none. none };
 }

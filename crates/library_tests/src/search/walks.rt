@@ -16,7 +16,7 @@ use call_state::Snapshot;
 use elevator_model::{MOST_NEXT_MOVES, Move};
 use partial_tours::Prefix;
 use price_scale::Price;
-use pricing_bound::{CompletionBound, StraightRides, Sums, bound};
+use pricing_bound::{StraightRides, Sums, TourBound, bound};
 
 /// What `bound` is asked at each partial tour.
 #[derive(Clone, Copy)]

@@ -10,7 +10,7 @@ use Rattle.partial_tours.proofs.Search.{left_in, left_falls, from_next}
 use Rattle.kept_tours.specs.Walking.{IsWalking, IsOpen, MayFollow}
 use Rattle.kept_tours.proofs.WalkingLemmas.{back_again, departs_there, reached_there}
 use Rattle.kept_tours.proofs.Followers.{followers, follower, IsAt}
-use Rattle.kept_tours.proofs.Below.{first_kept, next_kept}
+use Rattle.kept_tours.proofs.Below.{first_kept, kept_followers, left_out, next_kept}
 use Rattle.pricing_bound.specs.Aims.{Aim, value_for}
 use Rattle.kept_tours.specs.declared.visits.Visits.{Visits}
 use Rattle.kept_tours.specs.declared.visits.Visits.TheVariants.{Going, Passed, Under}
@@ -40,22 +40,26 @@ visit-returns-then-least-worth-clause-visited g t c =
     let value = to_z w128 (of_z w128 c.value-least.result) in
     let same : value ≡ c.value-least.result = search rules in
     let worth : to_z w128 (of_z w128 c.args.worth) ≡ c.args.worth = search rules in
-    not_kept (g.B.CompletionBound.aim c.args.guide.now.bound.now) c.args.guide.now.demand.now c.args.prefix.now
+    not_kept (g.B.TourBound.aim c.args.guide.now.bound.now) c.args.guide.now.demand.now c.args.prefix.now
     (g.B.CompletionBound.bound c.args.guide.now.bound.now)
-    (g.B.CompletionBound.stands c.args.guide.now.bound.now c.args.sums.now) c.args.worth c.args.left value c.requires.stands
-    (λ x there. same ∙ c.value-least.ensures.value x there) (at_least c.args.worth (to_z w128 (of_z w128 c.args.worth)) value worth c.if-least-worth.true)
+    (g.B.TourBound.stands c.args.guide.now.bound.now c.args.sums.now) c.args.worth c.args.left value c.requires.stands
+    (λ x there. same
+    ∙ (g.met.B.CompletionBound.exact c.args.guide.now.bound.now c.value-least.result x).0 (c.value-least.ensures.value x there))
+    (at_least c.args.worth (to_z w128 (of_z w128 c.args.worth)) value worth c.if-least-worth.true)
 
 pub visit-returns-then-left-eq0-clause-visited : goal.visit-returns-then-left-eq0-clause-visited
 visit-returns-then-left-eq0-clause-visited g t c =
     let p = c.args.prefix.now in
-    let a = g.B.CompletionBound.aim c.args.guide.now.bound.now in
+    let a = g.B.TourBound.aim c.args.guide.now.bound.now in
     let bound = g.B.CompletionBound.bound c.args.guide.now.bound.now in
     let value = to_z w128 (of_z w128 c.value-least.result) in
     let same : value ≡ c.value-least.result = search rules in
     let worth : to_z w128 (of_z w128 c.args.worth) ≡ c.args.worth = search rules in
     let kept = is_kept_here c.args.guide.now.demand.now p bound
-    (g.B.CompletionBound.stands c.args.guide.now.bound.now c.args.sums.now) c.args.worth value c.requires.stands
-    (λ x there. same ∙ c.value-least.ensures.value x there) (below c.args.worth (to_z w128 (of_z w128 c.args.worth)) value worth c.if-least-worth.false) in
+    (g.B.TourBound.stands c.args.guide.now.bound.now c.args.sums.now) c.args.worth value c.requires.stands
+    (λ x there. same
+    ∙ (g.met.B.CompletionBound.exact c.args.guide.now.bound.now c.value-least.result x).0 (c.value-least.ensures.value x there))
+    (below c.args.worth (to_z w128 (of_z w128 c.args.worth)) value worth c.if-least-worth.false) in
     subst (λ (n : ℕ). Visited p c.args.guide.now.demand.now a.price bound c.args.worth n p Passed) (sym c.if-left-eq0.true)
     (too_many p c.args.guide.now.demand.now a.price bound c.args.worth kept)
 
@@ -68,15 +72,17 @@ pub visit-returns-then-point-clause-visited : goal.visit-returns-then-point-clau
 visit-returns-then-point-clause-visited g t c =
     let p = c.args.prefix.now in
     let o = c.requires.stands in
-    let a = g.B.CompletionBound.aim c.args.guide.now.bound.now in
+    let a = g.B.TourBound.aim c.args.guide.now.bound.now in
     let bound = g.B.CompletionBound.bound c.args.guide.now.bound.now in
     let least = to_z w128 (of_z w128 c.value-least.result) in
     let same : least ≡ c.value-least.result = search rules in
     let worth : to_z w128 (of_z w128 c.args.worth) ≡ c.args.worth = search rules in
     let value = to_z w128 (of_z w128 c.tour_value-value.result) in
     let stored : value ≡ c.tour_value-value.result = search rules in
-    let kept = is_kept_here c.args.guide.now.demand.now p bound (g.B.CompletionBound.stands c.args.guide.now.bound.now c.args.sums.now) c.args.worth least o
-    (λ x there. same ∙ c.value-least.ensures.value x there) (below c.args.worth (to_z w128 (of_z w128 c.args.worth)) least worth c.if-least-worth.false) in
+    let kept = is_kept_here c.args.guide.now.demand.now p bound (g.B.TourBound.stands c.args.guide.now.bound.now c.args.sums.now) c.args.worth least o
+    (λ x there. same
+    ∙ (g.met.B.CompletionBound.exact c.args.guide.now.bound.now c.value-least.result x).0 (c.value-least.ensures.value x there))
+    (below c.args.worth (to_z w128 (of_z w128 c.args.worth)) least worth c.if-least-worth.false) in
     let is = subst (λ (b : Aim). value ≡ value_for b o.at.left) c.requires.walking.aim (stored ∙ c.tour_value-value.ensures.value o.at o.leads) in
     let found : c.of_tour.result ≡ cond (int_lt value c.args.worth) (Under value) (Going (c.args.left - 1)) = c.of_tour.ensures
     ∙ ap (λ (w : ℤ). cond (int_lt value w) (Under value) (Going (c.args.left - 1))) worth in
@@ -86,8 +92,8 @@ visit-returns-then-point-clause-visited g t c =
 
 pub visit-followers_below-followers-requires-clause-departs : goal.visit-followers_below-followers-requires-clause-departs
 visit-followers_below-followers-requires-clause-departs g t c =
-    departs_there (g.B.CompletionBound.stands c.args.guide.now.bound.now c.args.sums.now)
-    (g.B.CompletionBound.departs c.args.guide.now.bound.now c.depart-departure.result) c.args.guide.now.demand.now c.args.prefix.now c.requires.stands
+    departs_there (g.B.TourBound.stands c.args.guide.now.bound.now c.args.sums.now)
+    (g.B.TourBound.departs c.args.guide.now.bound.now c.depart-departure.result) c.args.guide.now.demand.now c.args.prefix.now c.requires.stands
     c.depart-departure.ensures
 
 pub visit-loop-next-init : goal.visit-loop-next-init
@@ -96,20 +102,21 @@ visit-loop-next-init g t c =
     let o = c.requires.stands in
     let bound = g.B.CompletionBound.bound c.args.guide.now.bound.now in
     let stored = to_z w128 (of_z w128 c.args.worth) in
-    let are = c.followers_below-followers.ensures o.at o.leads in
+    let are = kept_followers c.args.guide.now.demand.now (g.B.TourBound.bounds c.args.guide.now.bound.now) bound stored p o.at
+    c.followers_below-followers.result (g.met.B.CompletionBound.exact c.args.guide.now.bound.now) (c.followers_below-followers.ensures o.at o.leads) in
     let goes = first_kept p c.args.guide.now.demand.now bound stored o.at c.followers_below-followers.result c.first-next.result o.leads are
     c.first-next.ensures in
     record {
       same = refl;
       walks =
-          walks_first p c.args.guide.now.demand.now (g.B.CompletionBound.aim c.args.guide.now.bound.now).price bound stored o.at c.first-next.result
+          walks_first p c.args.guide.now.demand.now (g.B.TourBound.aim c.args.guide.now.bound.now).price bound stored o.at c.first-next.result
           (c.args.left - 1) o.leads goes;
     }
 
 pub visit-depart-departure-requires-clause-reached : goal.visit-depart-departure-requires-clause-reached
 visit-depart-departure-requires-clause-reached g t c =
-    reached_there (g.B.CompletionBound.aim c.args.guide.now.bound.now)
-    (g.B.CompletionBound.stands c.args.guide.now.bound.now c.args.sums.now) c.args.guide.now.demand.now c.args.prefix.now c.requires.walking
+    reached_there (g.B.TourBound.aim c.args.guide.now.bound.now)
+    (g.B.TourBound.stands c.args.guide.now.bound.now c.args.sums.now) c.args.guide.now.demand.now c.args.prefix.now c.requires.walking
     c.requires.stands
 
 pub visit-visit_after-visits-requires : goal.visit-visit_after-visits-requires
@@ -118,14 +125,14 @@ visit-visit_after-visits-requires g t c κs within =
     let o = c.requires.stands in
     let same = c.loop-next.invariant.same in
     let choice = c.in-Some.choice in
-    let a = g.B.CompletionBound.aim c.args.guide.now.bound.now in
+    let a = g.B.TourBound.aim c.args.guide.now.bound.now in
     let walks = subst (λ (next : Option Move).
     Walks p c.args.guide.now.demand.now a.price (g.B.CompletionBound.bound c.args.guide.now.bound.now) (to_z w128 (of_z w128 c.args.worth))
     (c.args.left - 1) next c.loop-next.left) c.in-Some.is c.loop-next.invariant.walks in
     let f = follower p c.args.guide.now.demand.now.allowed o.at choice walks.place o.leads walks.at in
     let next : MayFollow c.args.guide.now.demand.now p choice = record { lawful = f.lawful; may = f.may } in
-    let departs = departs_there (g.B.CompletionBound.stands c.args.guide.now.bound.now c.args.sums.now)
-    (g.B.CompletionBound.departs c.args.guide.now.bound.now c.depart-departure.result) c.args.guide.now.demand.now p o c.depart-departure.ensures in
+    let departs = departs_there (g.B.TourBound.stands c.args.guide.now.bound.now c.args.sums.now)
+    (g.B.TourBound.departs c.args.guide.now.bound.now c.depart-departure.result) c.args.guide.now.demand.now p o c.depart-departure.ensures in
     let here = ap left_in same in (
       omega (arith, here),
       (
@@ -137,11 +144,11 @@ visit-visit_after-visits-requires g t c κs within =
             (
               subst (λ (q : PartialTour). IsWalking a c.args.guide.now.demand.now q) (sym same) c.requires.walking,
               (
-                subst (λ (q : PartialTour). IsOpen (g.B.CompletionBound.stands c.args.guide.now.bound.now c.args.sums.now) c.args.guide.now.demand.now q)
+                subst (λ (q : PartialTour). IsOpen (g.B.TourBound.stands c.args.guide.now.bound.now c.args.sums.now) c.args.guide.now.demand.now q)
                     (sym same) o,
                 (
                   subst (λ (q : PartialTour).
-                      IsOpen (g.B.CompletionBound.departs c.args.guide.now.bound.now c.depart-departure.result) c.args.guide.now.demand.now q)
+                      IsOpen (g.B.TourBound.departs c.args.guide.now.bound.now c.depart-departure.result) c.args.guide.now.demand.now q)
                       (sym same) departs,
                   subst (λ (q : PartialTour). MayFollow c.args.guide.now.demand.now q choice) (sym same) next,
                 ),
@@ -158,14 +165,16 @@ visit-returns-in_default-visits g t c =
     let o = c.requires.stands in
     let same = c.loop-next.invariant.same in
     let choice = c.in-Some.choice in
-    let a = g.B.CompletionBound.aim c.args.guide.now.bound.now in
+    let a = g.B.TourBound.aim c.args.guide.now.bound.now in
     let bound = g.B.CompletionBound.bound c.args.guide.now.bound.now in
     let stored = to_z w128 (of_z w128 c.args.worth) in
     let worth : stored ≡ c.args.worth = search rules in
     let least = to_z w128 (of_z w128 c.value-least.result) in
     let least_is : least ≡ c.value-least.result = search rules in
-    let kept = is_kept_here c.args.guide.now.demand.now p bound (g.B.CompletionBound.stands c.args.guide.now.bound.now c.args.sums.now) c.args.worth least o
-    (λ x there. least_is ∙ c.value-least.ensures.value x there) (below c.args.worth stored least worth c.if-least-worth.false) in
+    let kept = is_kept_here c.args.guide.now.demand.now p bound (g.B.TourBound.stands c.args.guide.now.bound.now c.args.sums.now) c.args.worth least o
+    (λ x there. least_is
+    ∙ (g.met.B.CompletionBound.exact c.args.guide.now.bound.now c.value-least.result x).0 (c.value-least.ensures.value x there))
+    (below c.args.worth stored least worth c.if-least-worth.false) in
     let walks = subst (λ (w : ℤ). Walks p c.args.guide.now.demand.now a.price bound w (c.args.left - 1) (Some choice) c.loop-next.left) worth
     (subst (λ (next : Option Move). Walks p c.args.guide.now.demand.now a.price bound stored (c.args.left - 1) next c.loop-next.left) c.in-Some.is
     c.loop-next.invariant.walks) in
@@ -192,7 +201,8 @@ visit-loop-next-smaller g t c =
     let choice = c.in-Some.choice in
     let bound = g.B.CompletionBound.bound c.args.guide.now.bound.now in
     let stored = to_z w128 (of_z w128 c.args.worth) in
-    let are = c.followers_below-followers.ensures o.at o.leads in
+    let are = kept_followers c.args.guide.now.demand.now (g.B.TourBound.bounds c.args.guide.now.bound.now) bound stored p o.at
+    c.followers_below-followers.result (g.met.B.CompletionBound.exact c.args.guide.now.bound.now) (c.followers_below-followers.ensures o.at o.leads) in
     let at = subst (λ (next : Option Move). IsAt p c.args.guide.now.demand.now.allowed next c.loop-next.invariant.walks.place) c.in-Some.is
     c.loop-next.invariant.walks.at in
     let falls = (next_kept p c.args.guide.now.demand.now bound stored o.at c.followers_below-followers.result choice c.after-next.result
@@ -206,7 +216,7 @@ visit-loop-next-preserved g t c =
     let o = c.requires.stands in
     let same = c.loop-next.invariant.same in
     let choice = c.in-Some.choice in
-    let a = g.B.CompletionBound.aim c.args.guide.now.bound.now in
+    let a = g.B.TourBound.aim c.args.guide.now.bound.now in
     let bound = g.B.CompletionBound.bound c.args.guide.now.bound.now in
     let stored = to_z w128 (of_z w128 c.args.worth) in
     let walks = subst (λ (next : Option Move). Walks p c.args.guide.now.demand.now a.price bound stored (c.args.left - 1) next c.loop-next.left) c.in-Some.is
@@ -218,7 +228,8 @@ visit-loop-next-preserved g t c =
     Visited (with_move q choice) c.args.guide.now.demand.now a.price bound stored c.loop-next.left c.visit_after-visits.new.prefix (Going c.in-Going.rest))
     same seen in
     let back = c.visit_after-visits.ensures.back c.in-Going.rest c.in-Going.is ∙ same in
-    let are = c.followers_below-followers.ensures o.at o.leads in
+    let are = kept_followers c.args.guide.now.demand.now (g.B.TourBound.bounds c.args.guide.now.bound.now) bound stored p o.at
+    c.followers_below-followers.result (g.met.B.CompletionBound.exact c.args.guide.now.bound.now) (c.followers_below-followers.ensures o.at o.leads) in
     let goes = (next_kept p c.args.guide.now.demand.now bound stored o.at c.followers_below-followers.result choice c.after-next.result walks.place o.leads are
     walks.at c.after-next.ensures).0 in
     record {
@@ -232,14 +243,16 @@ pub visit-returns-clause-visited : goal.visit-returns-clause-visited
 visit-returns-clause-visited g t c =
     let p = c.args.prefix.now in
     let o = c.requires.stands in
-    let a = g.B.CompletionBound.aim c.args.guide.now.bound.now in
+    let a = g.B.TourBound.aim c.args.guide.now.bound.now in
     let bound = g.B.CompletionBound.bound c.args.guide.now.bound.now in
     let stored = to_z w128 (of_z w128 c.args.worth) in
     let worth : stored ≡ c.args.worth = search rules in
     let least = to_z w128 (of_z w128 c.value-least.result) in
     let least_is : least ≡ c.value-least.result = search rules in
-    let kept = is_kept_here c.args.guide.now.demand.now p bound (g.B.CompletionBound.stands c.args.guide.now.bound.now c.args.sums.now) c.args.worth least o
-    (λ x there. least_is ∙ c.value-least.ensures.value x there) (below c.args.worth stored least worth c.if-least-worth.false) in
+    let kept = is_kept_here c.args.guide.now.demand.now p bound (g.B.TourBound.stands c.args.guide.now.bound.now c.args.sums.now) c.args.worth least o
+    (λ x there. least_is
+    ∙ (g.met.B.CompletionBound.exact c.args.guide.now.bound.now c.value-least.result x).0 (c.value-least.ensures.value x there))
+    (below c.args.worth stored least worth c.if-least-worth.false) in
     let none = none_there c.loop-next.next c.in_default.not-Some in
     let walks = subst (λ (w : ℤ). Walks p c.args.guide.now.demand.now a.price bound w (c.args.left - 1) None c.loop-next.left) worth
     (subst (λ (next : Option Move). Walks p c.args.guide.now.demand.now a.price bound stored (c.args.left - 1) next c.loop-next.left) none
@@ -252,14 +265,16 @@ visit-returns-clause-visited g t c =
 
 pub visit_after-returns-in_default-clause-visited : goal.visit_after-returns-in_default-clause-visited
 visit_after-returns-in_default-clause-visited g t c =
-    let a = g.B.CompletionBound.aim c.args.guide.now.bound.now in
+    let a = g.B.TourBound.aim c.args.guide.now.bound.now in
     let bound = g.B.CompletionBound.bound c.args.guide.now.bound.now in
     let to = with_move c.args.prefix.now c.args.next in
     let stored = to_z w128 (of_z w128 c.args.worth) in
     let worth : stored ≡ c.args.worth = search rules in
     let led = is_some_has (course to) c.requires.next.lawful in
     let none = c.step_below.ensures.none (none_there c.step_below.result c.in_default.not-Some) in
-    let here = subst (λ (z : ℤ). keeps to c.args.guide.now.demand.now bound z led.0 ≡ false) worth (none.1 led.0 led.1) in
+    let out = left_out c.args.guide.now.demand.now (g.B.TourBound.bounds c.args.guide.now.bound.now) bound stored to
+    (g.met.B.CompletionBound.exact c.args.guide.now.bound.now) none.1 in
+    let here = subst (λ (z : ℤ). keeps to c.args.guide.now.demand.now bound z led.0 ≡ false) worth (out led.0 led.1) in
     passed_by to c.args.guide.now.demand.now a.price bound c.args.worth c.args.left c.step_below.new.prefix led.0 led.1 here
     (ap (λ (q : PartialTour). q.snapshot) none.0) (ap (λ (q : PartialTour). q.car) none.0)
 
@@ -277,7 +292,7 @@ visit_after-returns-in-Going-clause-back g t c left e =
 
 pub visit_after-returns-in-Going-clause-visited : goal.visit_after-returns-in-Going-clause-visited
 visit_after-returns-in-Going-clause-visited g t c =
-    let a = g.B.CompletionBound.aim c.args.guide.now.bound.now in
+    let a = g.B.TourBound.aim c.args.guide.now.bound.now in
     let bound = g.B.CompletionBound.bound c.args.guide.now.bound.now in
     let to = with_move c.args.prefix.now c.args.next in
     let stored = to_z w128 (of_z w128 c.args.worth) in

@@ -14,7 +14,7 @@ decreases-visit_after g l = 2 * left_in l.prefix.now
 abbrev pub invariant-visit-loop-next : goal.invariant-visit-loop-next
 invariant-visit-loop-next g l = record {
   same : l.prefix ≡ l.initial.prefix;
-  walks : Walks l.initial.prefix l.guide.demand.now (g.B.CompletionBound.aim l.guide.bound.now).price
+  walks : Walks l.initial.prefix l.guide.demand.now (g.B.TourBound.aim l.guide.bound.now).price
       (g.B.CompletionBound.bound l.guide.bound.now) l.worth l.initial.left l.next l.left;
 }
 

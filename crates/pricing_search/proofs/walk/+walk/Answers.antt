@@ -15,7 +15,7 @@ use Rattle.kept_tours.proofs.WalkingLemmas.{back_again, departs_there, reached_t
 use Rattle.pricing_search.specs.Steps.{AreFollowersWorth, IsVain}
 use Rattle.pricing_search.specs.Walks.{HasFound, Visited}
 use Rattle.pricing_search.proofs.StepLemmas.{none_there}
-use Rattle.pricing_search.proofs.Vain.{AreOthers, first_worth, next_worth, no_leaves}
+use Rattle.pricing_search.proofs.Vain.{AreOthers, first_worth, next_worth, no_leaves, vain_out, worth_followers}
 use Rattle.pricing_search.proofs.Visiting.{Visits, IsCounted, counted_found, reached_best, left_out, left_aside, ended_visited, all_visited, visits_first}
 use Rattle.pricing_search.proofs.Visiting.{visits_on}
 use Rattle.pricing_search.proofs.Stops.{VisitsBut, fewer_left, follower_in, gone_there, stops_begin, stops_end, stops_on}
@@ -28,7 +28,8 @@ visit-returns-then-is_reached-clause-visited g t c =
     let same : value ≡ c.value-least.result = search rules in
     reached_best a c.args.guide.now.demand.now c.args.prefix.now
     (g.B.TourBound.stands c.args.guide.now.bound.now c.args.sums.now) c.args.limit c.args.progress.now value c.requires.walking c.requires.stands
-    c.requires.limit c.requires.found (λ x there. subst (λ (z : ℤ). UndercutsNone a z x) (sym same) (c.value-least.ensures.lower x there))
+    c.requires.limit c.requires.found (λ x there. subst (λ (z : ℤ). UndercutsNone a z x) (sym same)
+    (g.met.B.TourBound.lower c.args.guide.now.bound.now c.value-least.result x (c.value-least.ensures.value x there)))
     (sym c.is_reached.ensures ∙ c.if-is_reached.true)
 
 pub visit-returns-then-progress-limit-clause-visited : goal.visit-returns-then-progress-limit-clause-visited
@@ -39,7 +40,8 @@ visit-returns-then-progress-limit-clause-visited g t c =
     left_out a c.args.guide.now.demand.now c.args.prefix.now
     (g.B.TourBound.stands c.args.guide.now.bound.now c.args.sums.now) c.args.limit c.args.progress.now c.leave_out.new.self value c.requires.walking
     c.requires.stands c.requires.limit c.if-progress-limit.true c.requires.found
-    (λ x there. subst (λ (z : ℤ). UndercutsNone a z x) (sym same) (c.value-least.ensures.lower x there)) c.leave_out.ensures.visits
+    (λ x there. subst (λ (z : ℤ). UndercutsNone a z x) (sym same)
+    (g.met.B.TourBound.lower c.args.guide.now.bound.now c.value-least.result x (c.value-least.ensures.value x there))) c.leave_out.ensures.visits
     c.leave_out.ensures.best c.leave_out.ensures.found c.leave_out.ensures.untried
 
 pub visit-tour_value-requires-clause-ended : goal.visit-tour_value-requires-clause-ended
@@ -77,7 +79,9 @@ visit-loop-next-init g t c =
     let best = to_z w128 (of_z w128 c.count.new.self.best) in
     let whole : best ≡ c.count.new.self.best = search rules in
     let below = subst (λ (worth : ℤ). AreFollowersWorth demand price worth p o.at c.followers_below-followers.result) whole
-    (c.followers_below-followers.ensures o.at o.leads) in
+    (worth_followers (g.B.TourBound.aim c.args.guide.now.bound.now)
+    (g.B.TourBound.bounds c.args.guide.now.bound.now) demand p best o.at c.followers_below-followers.result c.requires.walking
+    (g.met.B.TourBound.lower c.args.guide.now.bound.now) (c.followers_below-followers.ensures o.at o.leads)) in
     let others : AreOthers p demand price c.count.new.self.best o.at c.followers_below-followers.result c.without_leaves-others.result =
     record {
       all = below;
@@ -152,7 +156,9 @@ visit-loop-next-smaller g t c =
     let price = (g.B.TourBound.aim c.args.guide.now.bound.now).price in
     let choice = c.in-Some.choice in
     let at = subst (λ (next : Option Move). IsAt p demand.allowed next c.loop-next.invariant.visits.place) c.in-Some.is c.loop-next.invariant.visits.at in
-    let below = c.followers_below-followers.ensures o.at o.leads in
+    let below = worth_followers (g.B.TourBound.aim c.args.guide.now.bound.now) (g.B.TourBound.bounds c.args.guide.now.bound.now) demand p
+    (to_z w128 (of_z w128 c.count.new.self.best)) o.at c.followers_below-followers.result c.requires.walking
+    (g.met.B.TourBound.lower c.args.guide.now.bound.now) (c.followers_below-followers.ensures o.at o.leads) in
     let others : AreOthers p demand price
     (to_z w128 (of_z w128 c.count.new.self.best)) o.at c.followers_below-followers.result c.without_leaves-others.result =
     record {
@@ -182,7 +188,9 @@ visit-loop-next-preserved g t c =
     let best = to_z w128 (of_z w128 c.count.new.self.best) in
     let whole : best ≡ c.count.new.self.best = search rules in
     let below = subst (λ (worth : ℤ). AreFollowersWorth demand price worth p o.at c.followers_below-followers.result) whole
-    (c.followers_below-followers.ensures o.at o.leads) in
+    (worth_followers (g.B.TourBound.aim c.args.guide.now.bound.now)
+    (g.B.TourBound.bounds c.args.guide.now.bound.now) demand p best o.at c.followers_below-followers.result c.requires.walking
+    (g.met.B.TourBound.lower c.args.guide.now.bound.now) (c.followers_below-followers.ensures o.at o.leads)) in
     let others : AreOthers p demand price c.count.new.self.best o.at c.followers_below-followers.result c.without_leaves-others.result =
     record {
       all = below;
@@ -213,7 +221,9 @@ visit-loop-floor-init g t c =
     let best = to_z w128 (of_z w128 c.count.new.self.best) in
     let whole : best ≡ c.count.new.self.best = search rules in
     let below = subst (λ (worth : ℤ). AreFollowersWorth demand price worth p o.at c.followers_below-followers.result) whole
-    (c.followers_below-followers.ensures o.at o.leads) in
+    (worth_followers (g.B.TourBound.aim c.args.guide.now.bound.now)
+    (g.B.TourBound.bounds c.args.guide.now.bound.now) demand p best o.at c.followers_below-followers.result c.requires.walking
+    (g.met.B.TourBound.lower c.args.guide.now.bound.now) (c.followers_below-followers.ensures o.at o.leads)) in
     let begins = stops_begin p demand price c.args.limit o.at c.followers_below-followers.result c.count.new.self c.loop-next.progress o.leads below visits in
     record {
       same = c.loop-next.invariant.same;
@@ -319,7 +329,9 @@ visit_after-returns-in_default-clause-visited g t c =
     let same : best ≡ c.args.progress.now.best = search rules in
     let led = is_some_has (course to) c.requires.next.lawful in
     let vain = subst (λ (z : ℤ). IsVain demand price z c.args.prefix.now c.args.next) same
-    (c.step_below.ensures.none (none_there c.step_below.result c.in_default.not-Some)).1 in
+    (vain_out (g.B.TourBound.aim c.args.guide.now.bound.now)
+    (g.B.TourBound.bounds c.args.guide.now.bound.now) demand c.args.prefix.now best c.args.next c.requires.walking
+    (g.met.B.TourBound.lower c.args.guide.now.bound.now) (c.step_below.ensures.none (none_there c.step_below.result c.in_default.not-Some)).1) in
     left_aside to demand price c.args.limit c.args.progress.now c.args.progress.now.best (omega (arith, ints)) c.requires.limit c.requires.found
     (vain led.0 led.1)
 

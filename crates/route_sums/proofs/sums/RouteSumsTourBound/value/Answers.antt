@@ -7,8 +7,8 @@ use Rattle.route_sums.proofs.SizeLemmas.{stored_bound}
 use Rattle.route_sums.proofs.SumsLemmas.{stored_size}
 use Rattle.route_sums.proofs.sums.RouteSumsTourBound.value.Goals as goal
 
-pub returns-clause-lower : goal.returns-clause-lower
-returns-clause-lower c = λ x there.
+pub returns-clause-value : goal.returns-clause-value
+returns-clause-value c = λ x there.
     let a = aim_of c.args.self.now in
     let value = c.args.sums.now.value in
     subst (λ (z : ℤ). UndercutsNone a z x) (sym (stored_bound value there.size)) (undercuts a value x there.lower)

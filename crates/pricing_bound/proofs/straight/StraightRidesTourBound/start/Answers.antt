@@ -10,7 +10,7 @@ use Rattle.pricing_bound.proofs.RateLemmas.{stored}
 use Rattle.pricing_bound.proofs.SteadyLemmas.{adds_of}
 use Rattle.partial_tours.specs.Courses.{reached}
 use Rattle.pricing_bound.proofs.RunningLemmas.{aimed_at, start_sums}
-use Rattle.pricing_bound.proofs.straight.StraightRidesCompletionBound.start.Goals as goal
+use Rattle.pricing_bound.proofs.straight.StraightRidesTourBound.start.Goals as goal
 
 pub returns : goal.returns
 returns c = λ x e.

@@ -1,30 +1,30 @@
-//! One step of a walk over the kept partial tours of a car.
+//! One step of a walk over the partial tours that some tour of a node begins with.
 
-ghost use Rattle.std.specs.Prelude.{◌≡◌, ◌≤ℤ◌, ℕ, IfSome, None, Some, true};
+ghost use Rattle.std.specs.Prelude.{◌≡◌, ℕ, IfSome, None, Some, true};
 ghost use Rattle.elevator_model.specs.Partial.{Course, move_on};
 ghost use Rattle.elevator_model.specs.declared.Move.{Move as MoveValue};
 ghost use Rattle.partial_tours.specs.PartialTour.{course, with_move};
-ghost use Rattle.pricing_bound.specs.Aims.{AimsAt, IsNextMove};
-ghost use Rattle.kept_tours.specs.Walking.{AreFollowersBelow, IsWalking, IsNotKept, IsOpen, MayFollow};
+ghost use Rattle.pricing_bound.specs.Aims.{AimsAt, IsNextMove, IsUpTo};
+ghost use Rattle.kept_tours.specs.Walking.{AreFollowersBut, IsLeftOut, IsWalking, IsOpen, MayFollow};
 
 use crate::onward::followers_left;
 use elevator_model::Move;
 use partial_tours::{Followers, Prefix};
-use pricing_bound::CompletionBound;
+use pricing_bound::TourBound;
 use tour_extension::{Demand, can_be_extended};
 
-/// Whether no leave leads to a bound below the worth.
-fn leaves_in_vain<B: CompletionBound>(bound: &B, departure: &B::Departure, worth: i128) -> bool
+/// Whether the worth is at most the bound at each next stop.
+fn leaves_in_vain<B: TourBound>(bound: &B, departure: &B::Departure, worth: i128) -> bool
     ensures { result ≡ true → (x y : Course) (floor : ℕ) → B.departs bound.now departure.now x
         → move_on (B.aim bound.now).snapshot (B.aim bound.now).car x (MoveValue.Leave floor) ≡ Some y
-        → worth ≤ℤ B.bound bound.now y }
+        → IsUpTo (B.bounds bound.now) worth y }
 {
     bound.least_value(departure) >= worth
 }
 
-/// The moves that may follow, but for leaves after which the partial tour is not kept for the worth: the
-/// useless ones, and all where none leads to a bound below the worth.
-pub fn followers_below<B: CompletionBound>(
+/// The moves that may follow, but for leaves after which nothing is left for the worth: the useless ones, and
+/// all where none leads to a bound below the worth.
+pub fn followers_below<B: TourBound>(
     bound: &B,
     demand: &Demand,
     prefix: &Prefix,
@@ -34,14 +34,15 @@ pub fn followers_below<B: CompletionBound>(
     requires walking { IsWalking (B.aim bound.now) demand.now prefix.now }
     requires departs { IsOpen (B.departs bound.now departure.now) demand.now prefix.now }
     ensures { (x : Course) → course prefix.now ≡ Some x
-        → AreFollowersBelow demand.now (B.bound bound.now) worth prefix.now x result }
+        → AreFollowersBut (λ m. IsLeftOut demand.now (B.bounds bound.now) worth (with_move prefix.now m))
+        demand.now prefix.now x result }
 {
     let no_leaves = leaves_in_vain(bound, departure, worth);
     followers_left(prefix, demand, no_leaves)
 }
 
-/// Whether the move is a leave, and no leave leads to a bound below the worth.
-fn departs_in_vain<B: CompletionBound>(
+/// Whether the move is a leave, and the worth is at most the bound at each next stop.
+fn departs_in_vain<B: TourBound>(
     bound: &B,
     departure: &B::Departure,
     next: Move,
@@ -49,7 +50,7 @@ fn departs_in_vain<B: CompletionBound>(
 ) -> bool
     ensures { result ≡ true → (x y : Course) → B.departs bound.now departure.now x
         → move_on (B.aim bound.now).snapshot (B.aim bound.now).car x next ≡ Some y
-        → worth ≤ℤ B.bound bound.now y }
+        → IsUpTo (B.bounds bound.now) worth y }
 {
     match next {
         Move::Leave(_) => leaves_in_vain(bound, departure, worth),
@@ -58,7 +59,7 @@ fn departs_in_vain<B: CompletionBound>(
 }
 
 /// The sums after a move: after a leave from the departure, which has left out what no leave needs.
-fn sums_after<B: CompletionBound>(
+fn sums_after<B: TourBound>(
     bound: &B,
     prefix: &Prefix,
     sums: &B::Sums,
@@ -78,10 +79,10 @@ fn sums_after<B: CompletionBound>(
     }
 }
 
-/// Makes one move more where it leads to a partial tour that is kept for the worth, and gives the sums there.
-/// For any other it gives None and makes no move. The bound is tested first, since that needs no move; a
-/// leave is tested by the departure before.
-pub fn step_below<B: CompletionBound>(
+/// Makes one move more, and gives the sums there. Where nothing is left for the worth after it, it gives None
+/// and makes no move. The bound is tested first, since that needs no move; a leave is tested by the departure
+/// before.
+pub fn step_below<B: TourBound>(
     bound: &B,
     demand: &Demand,
     prefix: &mut Prefix,
@@ -98,7 +99,7 @@ pub fn step_below<B: CompletionBound>(
         × IsWalking (B.aim bound.now) demand.now prefix.new
         × IsOpen (B.stands bound.now sums) demand.now prefix.new) }
     ensures none { result ≡ None → (prefix.new ≡ prefix.old)
-        × IsNotKept demand.now (B.bound bound.now) worth (with_move prefix.old next) }
+        × IsLeftOut demand.now (B.bounds bound.now) worth (with_move prefix.old next) }
 {
     if departs_in_vain(bound, departure, next, worth) {
         return None;

@@ -6,7 +6,7 @@ use Rattle.pricing_bound.specs.Aims.{IsNextMove}
 use Rattle.pricing_bound.specs.Rates.{aim_at}
 use Rattle.pricing_bound.specs.Running.{StandFor}
 use Rattle.pricing_bound.proofs.RunningLemmas.{last_of, aims_on, end_sums}
-use Rattle.pricing_bound.proofs.straight.StraightRidesCompletionBound.after.Goals as goal
+use Rattle.pricing_bound.proofs.straight.StraightRidesTourBound.after.Goals as goal
 
 pub returns-in-End : goal.returns-in-End
 returns-in-End c = λ y e.

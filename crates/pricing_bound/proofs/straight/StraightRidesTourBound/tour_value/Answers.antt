@@ -7,7 +7,7 @@ use Rattle.pricing_bound.specs.Running.{StandFor}
 use Rattle.pricing_bound.proofs.CarriedLemmas.{one_course}
 use Rattle.pricing_bound.proofs.RateLemmas.{stored_less}
 use Rattle.pricing_bound.proofs.RunningLemmas.{tour_worth}
-use Rattle.pricing_bound.proofs.straight.StraightRidesCompletionBound.tour_value.Goals as goal
+use Rattle.pricing_bound.proofs.straight.StraightRidesTourBound.tour_value.Goals as goal
 
 pub returns-clause-value : goal.returns-clause-value
 returns-clause-value c = λ x e.

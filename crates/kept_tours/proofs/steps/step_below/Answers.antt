@@ -1,17 +1,17 @@
-use Rattle.std.proofs.Common.{◌≡◌, ◌∙◌, ◌≤ℤ◌, arith, refl, sym, subst, rules, Some}
+use Rattle.std.proofs.Common.{◌≡◌, ◌∙◌, ◌≤ℤ◌, arith, false, Some, refl, sym, subst, rules}
 use Rattle.std.specs.Prelude.{ℤ}
 use mir.Val.{to_z, of_z}
 use mir.Syntax.{w128}
 use Rattle.std.proofs.lemmas.Int.{ints, to_z-of_z}
 use Rattle.std.specs.Int.Signed.{le_z_yes}
 use Rattle.std.proofs.lemmas.Float.{T_from_true}
+use Rattle.std.proofs.lemmas.Bool.{both_ways}
 use Rattle.partial_tours.specs.PartialTour.{PartialTour, course, with_move}
 use Rattle.partial_tours.proofs.Follow.{is_some_has}
-use Rattle.pricing_bound.specs.Undercutting.{UndercutsNone}
-use Rattle.kept_tours.specs.Walking.{IsShut, IsWalking}
-use Rattle.kept_tours.proofs.WalkingLemmas.{back_again, next_move, walking_at, walking_on}
-use Rattle.pricing_search.proofs.Vain.{aimed_move, lesser_undercuts, shut_vain, vain_after}
-use Rattle.pricing_search.proofs.steps.step_below.Goals as goal
+use Rattle.pricing_bound.specs.Aims.{IsUpTo}
+use Rattle.kept_tours.specs.Walking.{IsWalking, goes_on}
+use Rattle.kept_tours.proofs.WalkingLemmas.{aimed_move, back_again, next_move, walking_at, walking_on}
+use Rattle.kept_tours.proofs.steps.step_below.Goals as goal
 
 pub sums_after-sums-requires-clause-leads : goal.sums_after-sums-requires-clause-leads
 sums_after-sums-requires-clause-leads g c =
@@ -22,36 +22,30 @@ sums_after-sums-requires-clause-leads g c =
 pub sums_after-sums-requires-clause-departs : goal.sums_after-sums-requires-clause-departs
 sums_after-sums-requires-clause-departs g c =
     next_move (g.B.TourBound.aim c.args.bound.now)
-    (g.B.TourBound.departs c.args.bound.now c.args.departure.now) c.args.demand.now c.args.prefix.now c.args.next c.requires.walking c.requires.departs
-    c.requires.next
+    (g.B.TourBound.departs c.args.bound.now c.args.departure.now) c.args.demand.now c.args.prefix.now c.args.next c.requires.walking
+    c.requires.departs c.requires.next
 
 pub returns-then-departs_in_vain-clause-none : goal.returns-then-departs_in_vain-clause-none
 returns-then-departs_in_vain-clause-none g c = λ _. (
   refl,
-  (
+  λ x leads on.
       let a = g.B.TourBound.aim c.args.bound.now in
       let t = c.args.prefix.now in
       let o = c.requires.departs in
       let whole = to_z-of_z w128 c.args.worth c.ranges.worth in
-      vain_after a c.args.demand.now t c.args.worth c.args.next c.requires.walking
-      (λ y leads. subst (λ (z : ℤ). UndercutsNone a z y) whole
-      (c.departs_in_vain.ensures c.if-departs_in_vain.true o.at y o.stands_there
-      (aimed_move a t o.at y c.args.next (walking_at a c.args.demand.now t c.requires.walking) o.leads leads)))
-      ),
+      subst (λ (z : ℤ). IsUpTo (g.B.TourBound.bounds c.args.bound.now) z x) whole
+      (c.departs_in_vain.ensures c.if-departs_in_vain.true o.at x o.stands_there
+      (aimed_move a t o.at x c.args.next (walking_at a c.args.demand.now t c.requires.walking) o.leads leads)),
 )
 
 pub returns-then-value-worth-clause-none : goal.returns-then-value-worth-clause-none
 returns-then-value-worth-clause-none g c = λ _. (
   refl,
-  (
-      let a = g.B.TourBound.aim c.args.bound.now in
+  λ x leads on.
       let same : to_z w128 (of_z w128 c.value.result) ≡ c.value.result = search rules in
       let whole = to_z-of_z w128 c.args.worth c.ranges.worth in
       let high : to_z w128 (of_z w128 c.args.worth) ≤ℤ to_z w128 (of_z w128 c.value.result) = le_z_yes (T_from_true _ c.if-value-worth.true) in
-      vain_after a c.args.demand.now c.args.prefix.now c.args.worth c.args.next c.requires.walking
-      (λ y leads. lesser_undercuts a c.value.result c.args.worth y (omega (arith, ints, whole, same, high))
-      (c.value.ensures.lower y (c.sums_after-sums.ensures y leads)))
-      ),
+      (c.value.result, omega (arith, ints, whole, same, high), c.value.ensures.value x (c.sums_after-sums.ensures x leads)),
 )
 
 pub returns-then-can_be_extended-clause-made : goal.returns-then-can_be_extended-clause-made
@@ -74,11 +68,10 @@ returns-then-can_be_extended-clause-made g c =
 pub returns-clause-none : goal.returns-clause-none
 returns-clause-none g c = λ _. (
   back_again c.pop.result c.args.prefix.now c.pop.new.self c.push.new.self c.args.next c.push.ensures c.pop.ensures,
-  (
-      let price = (g.B.TourBound.aim c.args.bound.now).price in
-      let w = c.requires.walking in
-      let here : IsShut c.args.demand.now c.push.new.self = λ x leads. sym (c.can_be_extended.ensures.test x leads) ∙ c.if-can_be_extended.false in
-      let shut = subst (IsShut c.args.demand.now) c.push.ensures here in
-      shut_vain c.args.demand.now price c.args.worth c.args.prefix.now c.args.next w.accepted w.demands shut
-      ),
+  λ x leads on.
+      let to = with_move c.args.prefix.now c.args.next in
+      let there = subst (λ (t : PartialTour). course t ≡ Some x) (sym c.push.ensures) leads in
+      let off = subst (λ (t : PartialTour). goes_on t c.args.demand.now x ≡ false) c.push.ensures
+      (sym (c.can_be_extended.ensures.test x there) ∙ c.if-can_be_extended.false) in
+      absurd (both_ways (goes_on to c.args.demand.now x) off on),
 )
