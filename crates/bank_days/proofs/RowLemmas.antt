@@ -3,16 +3,13 @@ use Rattle.std.proofs.Common.{◌≡◌, ℕ, ◌+◌, ◌<◌, List, [], ◌∷
 use Rattle.std.specs.Prelude.{IfOk}
 use Rattle.std.proofs.lemmas.List.{map-append, take_more}
 use Rattle.std.specs.declared.alloc.AllocError.{AllocError}
-use Rattle.elevator_model.specs.Snapshot.{Snapshot}
 use Rattle.search_model.specs.declared.RowFault.TheVariants.{NoRow}
-use Rattle.search_model.specs.declared.Stated.{Stated}
 use Rattle.search_model.specs.Days.{Day, Row}
 use Rattle.day_text.specs.Records.{row_of_line}
 use Rattle.day_simulator.specs.declared.days.RowAnswer.{RowAnswer}
 use Rattle.day_simulator.specs.Rows.{IsRefused, IsRowDone, next_step}
 use Rattle.day_text.specs.LogTexts.{row_text}
 use Rattle.day_simulator.specs.RowRuns.{Right, AreRowsDone}
-use Rattle.day_simulator.proofs.RightLemmas.{IsWider, row-wider}
 use Rattle.day_simulator.proofs.RowRunLemmas.{append-assoc, append-nil, no_plan, one-row, rows-more}
 use Rattle.bank_text.specs.declared.banks.BankRow.{BankRow}
 use Rattle.bank_text.specs.declared.banks.BankRow.TheVariants.{Fields, Other}
@@ -20,19 +17,6 @@ use Rattle.bank_text.specs.BankRows.{row_said, rows_said}
 use Rattle.bank_days.specs.Banks.{AreRowsAppended}
 
 -- ---- one row
-
--- what is right for a snapshot is right for the same one
-pub still-right : (right : Right) (s t : Snapshot) (one other : Stated) (said written : List ℕ) → right s one said → s ≡ t → one ≡ other → said ≡ written
-    → right t other written
-still-right right s t one other said written is here same as_written =
-    subst (λ (p : List ℕ). right t other p) as_written (subst (λ (x : Stated). right t x said) same (subst (λ (x : Snapshot). right x one said) here is))
-
--- whoever calls right whatever another does says the same of a row
-pub done-wider : (narrow wide : Right) (old : Day) (said : Option Row) (new : Day) (before after : List ℕ) (result : Result RowAnswer AllocError)
-    → IsWider narrow wide
-    → IfOk result (IsRowDone narrow old said new before after) → IfOk result (IsRowDone wide old said new before after)
-done-wider narrow wide old said new before after (Ok answer) wider done = row-wider narrow wide old said new before after answer wider done
-done-wider narrow wide old said new before after (Err error) wider done = done
 
 -- a row that is a line says what the line does
 pub fields-done : (right : Right) (old new : Day) (row : BankRow) (line : Vec ℕ Global) (bytes before after : List ℕ) (result : Result RowAnswer AllocError)

@@ -7,8 +7,8 @@ ghost use Rattle.day_simulator.specs.Planning.{PlannerLaw};
 ghost use Rattle.bank_days.specs.Banks.{IsBankLog};
 
 use crate::logs::BankLog;
-use crate::planners::Planner;
 use crate::running::BankJobs;
+use day_simulator::Planner;
 use std::alloc::{AllocError, Global};
 use std::marker::Sync;
 

@@ -17,11 +17,9 @@
 
 mod crews;
 mod logs;
-mod planners;
 mod running;
 
 pub use bank_text::{Bank, BankRow};
 pub use crews::BanksCrew;
 pub use logs::BankLog;
-pub use planners::Planner;
 pub use running::{BankJobs, run_banks};

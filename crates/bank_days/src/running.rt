@@ -4,7 +4,6 @@ ghost use Rattle.std.specs.Prelude.{◌≡◌, ◌<◌, ◌≤◌, ◌+◌, ◌^
 ghost use Rattle.elevator_model.specs.Snapshot.{IsAccepted};
 ghost use Rattle.search_model.specs.Days.{loses_none, opening_day};
 ghost use Rattle.day_state.specs.Openings.{IsOpeningSnapshot};
-ghost use Rattle.day_text.specs.Records.{row_of_line};
 ghost use Rattle.day_simulator.specs.Planning.{PlannerLaw};
 ghost use Rattle.day_simulator.specs.Rows.{IsRowDone};
 ghost use Rattle.day_laws.specs.Standing.{row_number};
@@ -13,40 +12,16 @@ ghost use Rattle.bank_days.specs.Banks.{AreBankLogs, AreRowsAppended, IsDayLog, 
 
 use crate::crews::BanksCrew;
 use crate::logs::BankLog;
-use crate::planners::Planner;
 use bank_text::{Bank, BankRow};
 use byte_streams::Gate;
 use call_state::Snapshot;
-use day_simulator::{Day, FIRST_LINE, RowAnswer};
+use day_simulator::{Day, FIRST_LINE, Planner, RowAnswer};
 use std::alloc::{AllocError, Global};
 use std::marker::Sync;
 use work_fan::{Jobs, MOST_WORKERS, Runtime};
 
 /// A worker has nothing at its desk.
 const MOST_DESKS: usize = MOST_WORKERS as usize;
-
-/// Takes or refuses the next row, which is this line, and appends its lines to the log. It fails only where
-/// there is no memory left.
-fn run_line<P: Planner>(
-    alloc: Global,
-    planner: &P,
-    line: &[u8],
-    day: &mut Day,
-    log: &mut Vec<u8>,
-) -> Result<RowAnswer, AllocError>
-    requires sound { PlannerLaw (P.right planner.now) }
-    requires number { row_number day.old < 2 ^ 32 }
-    ensures done { IfOk result (IsRowDone (P.right planner.now) day.old (row_of_line line.now)
-        day.new log.old.items log.new.items) }
-    ensures none_lost { IsTrue (loses_none day.new) }
-    ensures number { OnOk result (row_number day.new ≡ row_number day.old + 1) }
-{
-    let plan = |snapshot: &Snapshot|
-        ensures { IfOk result (λ planned.
-            P.right planner.entry.now snapshot.now planned.stated planned.proof.items) }
-    { planner.plan(snapshot) };
-    day.row(alloc, &plan, line, log)
-}
 
 /// Takes or refuses the next row of a bank, and appends its lines to the log. It fails only where there is
 /// no memory left.
@@ -65,7 +40,7 @@ fn run_row<P: Planner>(
     ensures number { OnOk result (row_number day.new ≡ row_number day.old + 1) }
 {
     match row {
-        BankRow::Fields(line) => run_line(alloc, planner, line.as_slice(), day, log),
+        BankRow::Fields(line) => day.row(alloc, planner, line.as_slice(), log),
         BankRow::Other => day.long_row(log),
     }
 }

@@ -3,6 +3,7 @@ use Rattle.std.proofs.Common.{◌≡◌, ℕ, zero, suc, ◌+◌, ◌<◌, Bool,
 use Rattle.std.proofs.Common.{arith, Option, Some, None, Ok}
 use Rattle.std.proofs.lemmas.Bool.{ltb-true, cases_lt}
 use Rattle.elevator_model.specs.Snapshot.{Snapshot}
+use Rattle.elevator_model.specs.declared.Stop.{Stop}
 use Rattle.search_model.specs.declared.RowFault.{RowFault}
 use Rattle.search_model.specs.declared.Stated.{Stated}
 use Rattle.search_model.specs.Advancing.{World}
@@ -10,7 +11,7 @@ use Rattle.search_model.specs.Days.{Day, Row, IsRightLog, fault_of_row, opening_
 use Rattle.lift_text.specs.Reading.{TextState}
 use Rattle.day_simulator.specs.declared.days.RowAnswer.{RowAnswer}
 use Rattle.day_simulator.specs.declared.days.RowAnswer.TheVariants.{Taken}
-use Rattle.day_simulator.specs.Rows.{IsRowDone, answer_of}
+use Rattle.day_simulator.specs.Rows.{IsRowDone, answer_of, held_plan}
 use Rattle.day_laws.specs.Standing.{row_number}
 use Rattle.day_laws.specs.RowLines.{rows_of}
 use Rattle.day_simulator.specs.RowRuns.{Right, AreRowsDone}
@@ -46,7 +47,7 @@ record IsCounted (right : Right) (old : Day) (said : Option Row) (new : Day) (te
   proof : List ℕ
   accepted : IsRowDone right old said new [] text (Taken printed.cost printed.bound)
   unsolved : printed.bound < printed.cost
-  is_right : right new.world.snapshot printed proof
+  is_right : right new.world.snapshot (held_plan old said) printed proof
 
 row-counted : (right : Right) (old : Day) (said : Option Row) (new : Day) (text : List ℕ) (answer : RowAnswer) → IsRowDone right old said new [] text answer
     → old.unsolved < new.unsolved → IsCounted right old said new text
@@ -54,8 +55,8 @@ row-counted right old said new text answer done more =
     let printed = done.0 in
     let proof = done.1 in
     let does = done.2 in
-    let counted = step-counted (λ s stated. right s stated proof) new.world old (row_number old) said printed (fault_of_row old.world (row_number old) said)
-    (subst (λ (d : Day). old.unsolved < d.unsolved) does.day more) does.right_plan in
+    let counted = step-counted (λ s stated. right s (held_plan old said) stated proof) new.world old (row_number old) said printed
+    (fault_of_row old.world (row_number old) said) (subst (λ (d : Day). old.unsolved < d.unsolved) does.day more) does.right_plan in
     record {
       printed = printed;
       proof = proof;
@@ -67,7 +68,8 @@ row-counted right old said new text answer done more =
 -- ---- the rows
 
 module _ (right : Right) (AreEnough : Snapshot → Type 0)
-    (law : (s : Snapshot) (stated : Stated) (proof : List ℕ) → right s stated proof → stated.bound < stated.cost → AreEnough s → ⊥) where
+    (law : (s : Snapshot) (held : List (List Stop)) (stated : Stated) (proof : List ℕ) → right s held stated proof → stated.bound < stated.cost
+    → AreEnough s → ⊥) where
   -- it is the first of them
   stopped-here : (old : Day) (said : Option Row) (between : Day) (first : List ℕ) (rows : List (Option Row)) (new : Day) (rest text : List ℕ)
       → IsCounted right old said between first → AreRowsDone right between rows new rest → text ≡ first ++ rest
@@ -89,7 +91,8 @@ module _ (right : Right) (AreEnough : Snapshot → Type 0)
     accepted = counted.accepted;
     later_done = later;
     unsolved = counted.unsolved;
-    not_enough = λ enough. law between.world.snapshot counted.printed counted.proof counted.is_right counted.unsolved enough;
+    not_enough = λ enough.
+        law between.world.snapshot (held_plan old said) counted.printed counted.proof counted.is_right counted.unsolved enough;
   }
 
   -- it is a later one
@@ -130,9 +133,9 @@ module _ (right : Right) (AreEnough : Snapshot → Type 0)
 -- ---- the day
 
 -- what a search answers within limits that are enough has a bound that is its cost
-not-enough : (options : DayOptions) (s : Snapshot) (stated : Stated) (proof : List ℕ) → SolvedBy options s stated proof → stated.bound < stated.cost
-    → AreEnoughBy options s → ⊥
-not-enough options s stated proof row below enough =
+not-enough : (options : DayOptions) (s : Snapshot) (held : List (List Stop)) (stated : Stated) (proof : List ℕ) → SolvedBy options s held stated proof
+    → stated.bound < stated.cost → AreEnoughBy options s → ⊥
+not-enough options s held stated proof row below enough =
     let equal = solved-where-enough options.search.limits.rounds options.search.limits.most_tours (most_claims options) s stated proof row enough in
     less-self stated.bound (subst (λ (n : ℕ). stated.bound < n) equal below)
 

@@ -6,6 +6,7 @@ use Rattle.std.specs.List.{concat}
 use Rattle.std.proofs.lemmas.List.Folds.{concat-append}
 use Rattle.elevator_model.specs.Snapshot.{Snapshot, IsAccepted}
 use Rattle.elevator_model.specs.Plans.{IsFeasiblePlan}
+use Rattle.elevator_model.specs.declared.Stop.{Stop}
 use Rattle.search_model.specs.declared.RowFault.{RowFault}
 use Rattle.search_model.specs.declared.Stated.{Stated}
 use Rattle.search_model.specs.Days.{Day, Row, IsRightLog, day_after_accepted, fault_of_row, opening_day, step_by}
@@ -19,7 +20,7 @@ use Rattle.day_text.proofs.PieceLemmas.{joined_again}
 use Rattle.day_state.specs.Openings.{IsOpeningSnapshot}
 use Rattle.day_state.proofs.OpeningLaws.{opening-feasible}
 use Rattle.day_simulator.specs.declared.days.RowAnswer.{RowAnswer}
-use Rattle.day_simulator.specs.Rows.{IsRowDone, next_step}
+use Rattle.day_simulator.specs.Rows.{IsRowDone, held_plan, next_step}
 use Rattle.day_laws.specs.Standing.{IsStanding, row_number}
 use Rattle.day_laws.proofs.NoneLost.{accepted-stands, opening-stands, refused-stands}
 use Rattle.day_simulator.proofs.RowLemmas.{done-numbered}
@@ -97,14 +98,16 @@ limit-in-front text opening rows front =
 
 -- ---- what holds of the days
 
-module _ (right : Right) (law : (s : Snapshot) (stated : Stated) (proof : List ℕ) → right s stated proof → IsAccepted s × IsFeasiblePlan s stated.plan) where
+module _ (right : Right)
+    (law : (s : Snapshot) (held : List (List Stop)) (stated : Stated) (proof : List ℕ) → right s held stated proof
+    → IsAccepted s × IsFeasiblePlan s stated.plan) where
   step-stands : (old : Day) (said : Option Row) (printed : Stated) (proof : List ℕ) (fault : Option RowFault) → IsStanding old → row_number old < 2 ^ 32
-      → IsRightLog (λ s stated. right s stated proof) (step_by old (row_number old) said printed fault).day.world
+      → IsRightLog (λ s stated. right s (held_plan old said) stated proof) (step_by old (row_number old) said printed fault).day.world
       (step_by old (row_number old) said printed fault).log → IsStanding (step_by old (row_number old) said printed fault).day
   step-stands old said printed proof (Some fault) is room is_right = refused-stands old is room
   step-stands old None printed proof None is room is_right = refused-stands old is room
   step-stands old (Some row) printed proof None is room is_right =
-      let good = law (day_after_accepted old (row_number old) row printed).world.snapshot printed proof is_right in
+      let good = law (day_after_accepted old (row_number old) row printed).world.snapshot (held_plan old (Some row)) printed proof is_right in
       accepted-stands old row printed is room good.0 good.1
 
   row-stands : (old : Day) (said : Option Row) (new : Day) (text : List ℕ) (answer : RowAnswer) → IsStanding old → row_number old < 2 ^ 32
@@ -113,7 +116,8 @@ module _ (right : Right) (law : (s : Snapshot) (stated : Stated) (proof : List �
       let printed = done.0 in
       let proof = done.1 in
       let does = done.2 in
-      let is_right = subst (λ (d : Day). IsRightLog (λ s stated. right s stated proof) d.world (next_step old said printed).log) does.day does.right_plan in
+      let is_right = subst (λ (d : Day). IsRightLog (λ s stated. right s (held_plan old said) stated proof) d.world (next_step old said printed).log)
+      does.day does.right_plan in
       subst IsStanding (sym does.day) (step-stands old said printed proof (fault_of_row old.world (row_number old) said) is room is_right)
 
   kept-rows : (old : Day) (rows : List (Option Row)) (new : Day) (text : List ℕ) → IsStanding old → row_number old + length rows ≤ 2 ^ 32
@@ -143,7 +147,7 @@ kept-from options input opening (Some from) passed behind Reads day text begins 
     let limit = limit-in-front (whole_text input) opening from begins in
     let short = read.0.short in
     let count = rows-of-bytes passed in
-    kept-rows (SolvedBy options) (λ s stated proof row. (row.accepted, row.right_plan.feasible)) (opening_day opening) (rows_of passed) day text
+    kept-rows (SolvedBy options) (λ s held stated proof row. (row.accepted, row.right_plan.feasible)) (opening_day opening) (rows_of passed) day text
     (opening-kept (whole_text input) opening from begins) (omega (arith, limit, short, count)) done
 
 pub kept-day : (options : DayOptions) (left left' taken taken' : Option (List ℕ)) (result : Result Ended RunFault)

@@ -13,11 +13,10 @@ ghost use Rattle.day_commands.specs.DayOutcome.{PutsRowsFault, ReportsDay, RunsD
 ghost use Rattle.day_commands.specs.DayOutcome.{status_of_unsolved as status_of_unsolved_lem};
 
 use byte_streams::{Gate, Sink, SinkFault, Source};
-use call_state::Snapshot;
 use cert_claims::CountingCrew;
 use command_ends::{Status, put, put_fault, put_too_long};
-use day_planner::plan_within;
-use day_simulator::{DayFault, Ended, Planned, RunFault, run_day_text};
+use day_planner::Searches;
+use day_simulator::{DayFault, Ended, RunFault, run_day_text};
 use lift_text::{LineReader, TextFault};
 use lift_words::DayOptions;
 use service_report::{report_of, write_report};
@@ -41,23 +40,6 @@ impl Sink for Nowhere {
     }
 }
 
-/// A plan of the snapshot, as a search by these options finds it.
-fn plan_row<C: SearchCrew + CountingCrew, G: Gate>(
-    runtime: &Runtime<C, G>,
-    options: DayOptions,
-    snapshot: &Snapshot,
-) -> Result<Planned, AllocError>
-    requires { AreDayOptions options }
-    ensures { IfOk result (λ planned. SolvedBy options snapshot.now planned.stated planned.proof.items) }
-{
-    plan_within(
-        runtime,
-        options.search.limits,
-        options.most_claims(),
-        snapshot,
-    )
-}
-
 /// Runs the day of an opening and rows, with a plan of a search at each row that is accepted.
 fn run_input<S: Source, K: Sink, C: SearchCrew + CountingCrew, G: Gate>(
     runtime: &Runtime<C, G>,
@@ -75,15 +57,12 @@ fn run_input<S: Source, K: Sink, C: SearchCrew + CountingCrew, G: Gate>(
     ensures write { IsUnwritten result → Rose (K.faults sink.old) (K.faults sink.new) }
     ensures sink_counted { K.faults sink.old ≤ K.faults sink.new }
 {
-    let plan = |snapshot: &Snapshot|
-        requires { AreDayOptions options }
-        ensures { IfOk result (λ planned. SolvedBy options snapshot.now planned.stated planned.proof.items) }
-    { plan_row(runtime, options, snapshot) };
+    let planner = Searches::new(runtime, options.search.limits, options.most_claims());
     let mut lines = match LineReader::new(runtime.alloc, source) {
         Ok(lines) => lines,
         Err(_) => return Err(DayFault::Opening(TextFault::NoMemory)),
     };
-    let ended = run_day_text(runtime.alloc, &plan, &mut lines, sink, runtime.gate);
+    let ended = run_day_text(runtime.alloc, &planner, &mut lines, sink, runtime.gate);
     lines.into_source();
     ended
 }

@@ -14,7 +14,7 @@
 //!   (`Completes`).
 //! - `report` (`ReportsDay`): the same day without a log, and with 0 and 3 the text of its report (`ReportDue`).
 //!
-//! Both run one day (`run_input`) whose planner is a search within the limits (`plan_within`), the one over the
+//! Both run one day (`run_input`) whose planner is a search within the limits (`Searches`), the one over the
 //! sink, the other over a sink that keeps nothing.
 #![tactic(auto)]
 

@@ -68,11 +68,13 @@ brought-fault old n row w call x h late moved called is =
 -- the call can be taken, and this is the snapshot with it
 pub brought-world : (old : World) (n : ℕ) (row : Row) (w after : World) (call : Call) (before events : List Event) → is_row old.snapshot.building row ≡ true
     → old.snapshot.moment ≤ row.time → w ≡ advanced old row.time → call ≡ call_of_row n row → fault_of_new_call w.snapshot call ≡ None
-    → after.snapshot ≡ taken w.snapshot call → before ≡ [] → events ≡ before ++ events_by old row.time → IsWorldBrought old n row events after
-brought-world old n row w after call before events h late moved called none took empty happened =
+    → after.snapshot ≡ taken w.snapshot call → after.plan ≡ w.plan → before ≡ [] → events ≡ before ++ events_by old row.time
+    → IsWorldBrought old n row events after
+brought-world old n row w after call before events h late moved called none took kept empty happened =
     record {
       faultless = brought-fault old n row w call None h late moved called none;
       snapshot = took ∙ ap (λ (v : World). taken v.snapshot call) moved ∙ ap (taken (advanced old row.time).snapshot) called;
+      held = kept ∙ ap (λ (v : World). v.plan) moved;
       happened = happened ∙ ap (λ (xs : List Event). xs ++ events_by old row.time) empty;
     }
 

@@ -18,6 +18,7 @@ fn offer(alloc: Global, world: &mut World, call: Call) -> Result<Option<RowFault
     requires { IsNewCall world.old.snapshot call }
     ensures fault { IfOk result (λ fault. fault ≡ fault_of_new_call world.old.snapshot call) }
     ensures taken { IfOk result (λ fault. fault ≡ None → world.new.snapshot ≡ taken world.old.snapshot call) }
+    ensures held { world.new.plan ≡ world.old.plan }
 {
     match world.accept(alloc, call) {
         Ok(()) => Ok(None),
@@ -57,7 +58,7 @@ fn moved(
 }
 
 /// The world at the time of the row with this number, with its call, and what happens until then; or why the
-/// row is refused. What may be refused is tried on a copy of the world, whose plan is the old one.
+/// row is refused. What may be refused is tried on a copy of the world; its plan is what is left of the old one.
 pub fn world_of_row(
     alloc: Global,
     world: &World,

@@ -13,7 +13,7 @@ use Rattle.search_model.proofs.TreeLemmas.{proves-bound}
 use Rattle.tour_cost.proofs.Served.{cars-le}
 use Rattle.day_simulator.specs.Planning.{IsRightPlan}
 use Rattle.certified_search.proofs.Enough.{certified_same}
-use Rattle.day_planner.specs.SolvedRows.{AreEnoughFor, IsCertifiedRow, IsSolvedRow}
+use Rattle.day_planner.specs.SolvedRows.{AreEnoughFor, IsCertifiedRow, IsSolvedPlan}
 
 -- a plan whose bound is proved is a right one
 right-plan : (s : Snapshot) (stated : Stated) (tree : List Twig) → IsAccepted s → Proves s stated.plan stated.cost stated.bound tree → IsRightPlan s stated
@@ -27,7 +27,7 @@ module _ (rounds moves : ℕ) (s : Snapshot) (accepted : IsAccepted s) (found : 
     (answer : IsSolveAnswer s rounds moves found.plan found.cost found.bound tree turns why)
     (enough : rounds_enough s ≤ rounds → moves_enough s ≤ moves → why ≡ Solved) where
   -- what is stated as it was found, and not written
-  pub solved-row : (proof : List ℕ) → proof ≡ [] → IsSolvedRow rounds moves None s found proof
+  pub solved-row : (proof : List ℕ) → proof ≡ [] → IsSolvedPlan rounds moves None s found proof
   solved-row proof none = record {
     accepted = accepted;
     right_plan = right-plan s found tree accepted answer.proves;
@@ -43,7 +43,7 @@ module _ (rounds moves : ℕ) (s : Snapshot) (accepted : IsAccepted s) (found : 
   -- what is written with its certificate
   pub certified-row : (limit bound : ℕ) (proof : List ℕ)
       → IsCertifiedRow s limit found tree (record { plan = found.plan; cost = found.cost; bound = bound }) proof
-      → IsSolvedRow rounds moves (Some limit) s (record { plan = found.plan; cost = found.cost; bound = bound }) proof
+      → IsSolvedPlan rounds moves (Some limit) s (record { plan = found.plan; cost = found.cost; bound = bound }) proof
   certified-row limit bound proof written = record {
     accepted = accepted;
     right_plan = right-plan s (record { plan = found.plan; cost = found.cost; bound = bound }) written.certificate accepted written.certified.proves;
@@ -58,11 +58,11 @@ module _ (rounds moves : ℕ) (s : Snapshot) (accepted : IsAccepted s) (found : 
 
   -- and so it is as it is stated
   pub certified-row-as : (limit : ℕ) (stated : Stated) (proof : List ℕ) → stated.plan ≡ found.plan → stated.cost ≡ found.cost
-      → IsCertifiedRow s limit found tree stated proof → IsSolvedRow rounds moves (Some limit) s stated proof
+      → IsCertifiedRow s limit found tree stated proof → IsSolvedPlan rounds moves (Some limit) s stated proof
   certified-row-as limit stated proof plan cost written =
       let same : record { plan = found.plan; cost = found.cost; bound = stated.bound } ≡ stated =
       λ i. record { plan = sym plan i; cost = sym cost i; bound = stated.bound } in
-      subst (λ (x : Stated). IsSolvedRow rounds moves (Some limit) s x proof) same
+      subst (λ (x : Stated). IsSolvedPlan rounds moves (Some limit) s x proof) same
       (certified-row limit stated.bound proof (subst (λ (x : Stated). IsCertifiedRow s limit found tree x proof) (sym same) written))
 
 -- no limit is none
@@ -70,16 +70,8 @@ pub none-there : (claims : Option ℕ) → ((most : ℕ) → claims ≡ Some mos
 none-there None none = refl
 none-there (Some most) none = absurd (none most refl)
 
--- and so is what states the same
-pub still-solved : (rounds moves : ℕ) (claims : Option ℕ) (s t : Snapshot) (one other : Stated) (said written : List ℕ)
-    → IsSolvedRow rounds moves claims s one said → s ≡ t → one ≡ other → said ≡ written → IsSolvedRow rounds moves claims t other written
-still-solved rounds moves claims s t one other said written solved here same as_written =
-    subst (λ (p : List ℕ). IsSolvedRow rounds moves claims t other p) as_written
-    (subst (λ (x : Stated). IsSolvedRow rounds moves claims t x said) same
-    (subst (λ (x : Snapshot). IsSolvedRow rounds moves claims x one said) here solved))
-
 -- where the limits are enough, the bound that is stated is the one that the search found
-same-bound : (rounds moves : ℕ) (claims : Option ℕ) (s : Snapshot) (stated : Stated) (proof : List ℕ) (row : IsSolvedRow rounds moves claims s stated proof)
+same-bound : (rounds moves : ℕ) (claims : Option ℕ) (s : Snapshot) (stated : Stated) (proof : List ℕ) (row : IsSolvedPlan rounds moves claims s stated proof)
     → AreEnoughFor rounds moves claims s → stated.bound ≡ row.bound
 same-bound rounds moves None s stated proof row enough = row.written.0
 same-bound rounds moves (Some limit) s stated proof row enough =
@@ -88,7 +80,7 @@ same-bound rounds moves (Some limit) s stated proof row enough =
 
 -- and it is the cost
 pub solved-where-enough : (rounds moves : ℕ) (claims : Option ℕ) (s : Snapshot) (stated : Stated) (proof : List ℕ)
-    → IsSolvedRow rounds moves claims s stated proof → AreEnoughFor rounds moves claims s → stated.cost ≡ stated.bound
+    → IsSolvedPlan rounds moves claims s stated proof → AreEnoughFor rounds moves claims s → stated.cost ≡ stated.bound
 solved-where-enough rounds moves claims s stated proof row enough =
     let why = row.enough enough.rounds_are enough.moves_are in
     let equal : stated.cost ≡ row.bound = subst (λ (w : StopReason). IsReason s rounds moves stated.cost row.bound row.tree w) why row.answer.reason in

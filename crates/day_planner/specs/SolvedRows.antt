@@ -1,6 +1,7 @@
 -- What a search within limits answers at an accepted row.
 use Rattle.std.specs.Prelude.{◌≡◌, ℕ, ◌≤◌, ◌++◌, List, [], Option, Some, None, IfSome}
 use Rattle.elevator_model.specs.Snapshot.{Snapshot, IsAccepted}
+use Rattle.elevator_model.specs.declared.Stop.{Stop}
 use Rattle.search_model.specs.declared.Stated.{Stated}
 use Rattle.search_model.specs.declared.Twig.{Twig}
 use Rattle.search_model.specs.declared.Turn.{Turn}
@@ -33,7 +34,7 @@ IsWritten (Some limit) s found tree stated proof = IsCertifiedRow s limit found 
 
 -- A right plan of an accepted snapshot, its cost and a bound as a search answers them within these limits, written in full
 -- where the claims of certificates have a limit. Where the limits are enough for the snapshot, none was reached.
-pub record IsSolvedRow (rounds moves : ℕ) (claims : Option ℕ) (s : Snapshot) (stated : Stated) (proof : List ℕ) : Type 0 where
+pub record IsSolvedPlan (rounds moves : ℕ) (claims : Option ℕ) (s : Snapshot) (stated : Stated) (proof : List ℕ) : Type 0 where
   pub accepted : IsAccepted s
   pub right_plan : IsRightPlan s stated
   -- the bound that the search found
@@ -44,3 +45,7 @@ pub record IsSolvedRow (rounds moves : ℕ) (claims : Option ℕ) (s : Snapshot)
   pub answer : IsSolveAnswer s rounds moves stated.plan stated.cost bound tree turns why
   pub enough : rounds_enough s ≤ rounds → moves_enough s ≤ moves → why ≡ Solved
   pub written : IsWritten claims s (record { plan = stated.plan; cost = stated.cost; bound = bound }) tree stated proof
+
+-- What a search within these limits answers at an accepted row, whatever plan held before.
+abbrev pub IsSolvedRow : (rounds moves : ℕ) (claims : Option ℕ) → Snapshot → (held : List (List Stop)) → Stated → (proof : List ℕ) → Type 0
+IsSolvedRow rounds moves claims s held stated proof = IsSolvedPlan rounds moves claims s stated proof

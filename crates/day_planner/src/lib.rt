@@ -2,16 +2,17 @@
 //!
 //! # What is promised
 //!
-//! - `plan_within` answers a plan of the snapshot with its cost and a bound, as a search of it within these
-//!   limits answers them, for 1 to 16 workers (`IsSolvedRow`, in `specs/SolvedRows.antt`): the plan is
-//!   feasible, no feasible plan's cost is below the bound, and where the limits are enough for the snapshot
-//!   the cost is the bound. Where certificates are wanted it writes the plan as an answer with the certificate
-//!   that proves the bound, whose claims are within a limit; the bound is the search's own where its claims
-//!   are (`IsCertifiedRow`). Or it is out of memory.
+//! - `Searches` is the planner of `day` and of `banks`. It answers a plan of the snapshot with its cost and a
+//!   bound, as a search of it within its limits answers them, for 1 to 16 workers and whatever plan held before
+//!   (`IsSolvedRow`, in `specs/SolvedRows.antt`): the plan is feasible, no feasible plan's cost is below the
+//!   bound, and where the limits are enough for the snapshot the cost is the bound. Where certificates are
+//!   wanted it writes the plan as an answer with the certificate that proves the bound, whose claims are within
+//!   a limit; the bound is the search's own where its claims are (`IsCertifiedRow`). Or it is out of memory.
 //!
 //! Moments are in ms, costs in cost units.
 #![tactic(auto)]
 
 mod planning;
+mod searches;
 
-pub use planning::plan_within;
+pub use searches::Searches;

@@ -5,7 +5,7 @@ ghost use Rattle.search_model.specs.Certificates.{Proves};
 ghost use Rattle.search_model.specs.Solving.{floor_of_bound};
 ghost use Rattle.search_tree.specs.Sheets.{IsSizedTwig};
 ghost use Rattle.answer_text.specs.Plans.{FitsSnapshot};
-ghost use Rattle.day_planner.specs.SolvedRows.{IsCertifiedRow, IsSolvedRow};
+ghost use Rattle.day_planner.specs.SolvedRows.{IsCertifiedRow, IsSolvedPlan};
 
 use answer_text::write_answer;
 use assign_branch::Tree;
@@ -55,14 +55,14 @@ fn with_certificate<C: CountingCrew, G: Gate>(
 
 /// A plan of the snapshot, as a search within these limits finds it; written with its
 /// certificate where the claims of that have a limit. It fails only where there is no memory left.
-pub fn plan_within<C: SearchCrew + CountingCrew, G: Gate>(
+pub(crate) fn plan_within<C: SearchCrew + CountingCrew, G: Gate>(
     runtime: &Runtime<C, G>,
     limits: Limits,
     claims: Option<u64>,
     snapshot: &Snapshot,
 ) -> Result<Planned, AllocError>
     requires claims { IfSome claims (λ most. most ≤ 10 ^ 10) }
-    ensures { IfOk result (λ planned. IsSolvedRow limits.rounds limits.most_tours claims snapshot.now
+    ensures { IfOk result (λ planned. IsSolvedPlan limits.rounds limits.most_tours claims snapshot.now
         planned.stated planned.proof.items) }
 {
     // For the proof: a reader tells that the snapshot keeps the rules.

@@ -6,4 +6,3 @@ pub mod StepLemmas
 pub mod ServedRows
 pub mod DayRunLemmas
 pub mod TextRunLemmas
-pub mod RightLemmas

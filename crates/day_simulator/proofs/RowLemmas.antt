@@ -1,9 +1,6 @@
 -- What a row does: refused for a fault, or accepted.
 use Rattle.std.specs.Prelude.{nat_lt, if◌then◌else◌, ◌^◌, Result, Ok, Err, IfOk, OnOk}
-use Rattle.std.specs.Borrow.{Bor}
-use Rattle.std.specs.Fn.{FnReturnsAt, Shared}
 use Rattle.std.specs.declared.alloc.AllocError.{AllocError}
-use Rattle.day_text.specs.declared.printed_plans.Planned.{Planned}
 use Rattle.std.proofs.Common.{◌≡◌, ℕ, ◌+◌, ◌<◌, List, [], ◌∷◌, ◌++◌, refl, sym, ap, ◌∙◌, subst, Option, Some, None}
 use Rattle.search_model.specs.declared.RowFault.{RowFault}
 use Rattle.search_model.specs.declared.Stated.{Stated}
@@ -20,7 +17,8 @@ use Rattle.day_simulator.specs.declared.days.RowAnswer.{RowAnswer}
 use Rattle.day_simulator.specs.declared.days.RowAnswer.TheVariants.{Taken}
 use Rattle.day_laws.specs.Standing.{IsStanding, row_number}
 use Rattle.day_text.specs.LogTexts.{row_text, accepted_text}
-use Rattle.day_simulator.specs.Rows.{right_by, next_step, answer_of, DoesRow, IsRowDone, IsRefused}
+use Rattle.day_simulator.specs.Rows.{next_step, answer_of, held_plan, DoesRow, IsRowDone, IsRefused}
+use Rattle.day_simulator.specs.RowRuns.{Right}
 use Rattle.day_laws.proofs.NoneLost.{accepted-stands}
 use Rattle.day_laws.proofs.RowFaults.{refused-number, step-number}
 
@@ -37,20 +35,20 @@ step-accepted : (old : Day) (row : Row) (printed : Stated) → fault_of_row old.
 step-accepted old row printed is = ap (step_by old (row_number old) (Some row) printed) is
 
 -- what is known of a row, over its step
-does : (right : Snapshot → Stated → List ℕ → Type 0) (old : Day) (said : Option Row) (new : Day) (before after : List ℕ) (answer : RowAnswer)
+does : (right : Right) (old : Day) (said : Option Row) (new : Day) (before after : List ℕ) (answer : RowAnswer)
     (printed : Stated) (proof : List ℕ) (step : Step) → next_step old said printed ≡ step → new ≡ step.day
-    → after ≡ before ++ row_text new.world.snapshot step.log proof → IsRightLog (λ s stated. right s stated proof) new.world step.log
+    → after ≡ before ++ row_text new.world.snapshot step.log proof → IsRightLog (λ s stated. right s (held_plan old said) stated proof) new.world step.log
     → answer ≡ answer_of step.log → DoesRow right old said new before after answer printed proof
 does right old said new before after answer printed proof step is day text right_plan answered =
     let P : Step → Type 0 = λ x. (new ≡ x.day) × (after ≡ before ++ row_text new.world.snapshot x.log proof)
-    × IsRightLog (λ s stated. right s stated proof) new.world x.log × (answer ≡ answer_of x.log) in
+    × IsRightLog (λ s stated. right s (held_plan old said) stated proof) new.world x.log × (answer ≡ answer_of x.log) in
     let all = subst P (sym is) (day, text, right_plan, answered) in
     record { day = all.0; text = all.1; right_plan = all.2; answer_is = all.3 }
 
 abbrev no_plan : Stated
 no_plan = record { plan = []; cost = 0; bound = 0 }
 
-pub refused-row : (right : Snapshot → Stated → List ℕ → Type 0) (old : Day) (said : Option Row) (fault : RowFault) (new : Day) (before after : List ℕ)
+pub refused-row : (right : Right) (old : Day) (said : Option Row) (fault : RowFault) (new : Day) (before after : List ℕ)
     (answer : RowAnswer) → fault_of_row old.world (row_number old) said ≡ Some fault → IsRefused old fault new before after answer
     → IsRowDone right old said new before after answer
 refused-row right old said fault new before after answer is refused = (
@@ -60,10 +58,10 @@ refused-row right old said fault new before after answer is refused = (
       (step-refused old said no_plan fault is) refused.day refused.text tt refused.answer_is,
 )
 
-pub accepted-row : (right : Snapshot → Stated → List ℕ → Type 0) (old : Day) (row : Row) (new : Day) (before after : List ℕ) (answer : RowAnswer)
+pub accepted-row : (right : Right) (old : Day) (row : Row) (new : Day) (before after : List ℕ) (answer : RowAnswer)
     (printed : Stated) (proof : List ℕ) → fault_of_row old.world (row_number old) (Some row) ≡ None → new ≡ day_after_accepted old (row_number old) row printed
-    → after ≡ before ++ accepted_text new.world.snapshot (row_number old) (events_by old.world row.time) printed proof → right new.world.snapshot printed proof
-    → answer ≡ Taken printed.cost printed.bound → IsRowDone right old (Some row) new before after answer
+    → after ≡ before ++ accepted_text new.world.snapshot (row_number old) (events_by old.world row.time) printed proof
+    → right new.world.snapshot (advanced old.world row.time).plan printed proof → answer ≡ Taken printed.cost printed.bound → IsRowDone right old (Some row) new before after answer
 accepted-row right old row new before after answer printed proof is day text right_plan answered = (
   printed,
   proof,
@@ -121,16 +119,18 @@ taken-stands day inside row w cost bound more calls same is low world accepted f
         }) same
 
 -- The row of a call that was taken, with a plan that is right in the world that took it, was accepted.
-pub taken-row : (right : Snapshot → Stated → List ℕ → Type 0) (old : Day) (row : Row) (new : Day) (before after text : List ℕ) (s : Snapshot) (n : ℕ)
+pub taken-row : (right : Right) (old : Day) (row : Row) (new : Day) (before after text : List ℕ) (s : Snapshot) (held : List (List Stop)) (n : ℕ)
     (events : List Event) (plan : List (List Stop)) (printed : Stated) (proof : List ℕ)
     → fault_of_row old.world (row_number old) (Some row) ≡ None
     → new ≡ day_after_accepted old (row_number old) row (record { plan = plan; cost = printed.cost; bound = printed.bound }) → plan ≡ printed.plan
-    → s ≡ (with_call (advanced old.world row.time) (call_of_row (row_number old) row) []).snapshot → n ≡ row_number old → events ≡ events_by old.world row.time
-    → text ≡ accepted_text s n events printed proof → after ≡ before ++ text → right s printed proof
+    → s ≡ (with_call (advanced old.world row.time) (call_of_row (row_number old) row) []).snapshot → held ≡ (advanced old.world row.time).plan
+    → n ≡ row_number old → events ≡ events_by old.world row.time
+    → text ≡ accepted_text s n events printed proof → after ≡ before ++ text → right s held printed proof
     → IsRowDone right old (Some row) new before after (Taken printed.cost printed.bound)
-taken-row right old row new before after text s n events plan printed proof none is planned stands numbered happened says wrote right_plan =
+taken-row right old row new before after text s held n events plan printed proof none is planned stands left numbered happened says wrote right_plan =
     accepted-row right old row new before after (Taken printed.cost printed.bound) printed proof none day lines
-    (subst (λ (x : Snapshot). right x printed proof) there right_plan) refl
+    (subst (λ (x : Snapshot). right x (advanced old.world row.time).plan printed proof) there
+    (subst (λ (x : List (List Stop)). right s x printed proof) left right_plan)) refl
   where
     day : new ≡ day_after_accepted old (row_number old) row printed
     day = is ∙ ap (λ (p : List (List Stop)). day_after_accepted old (row_number old) row (record { plan = p; cost = printed.cost; bound = printed.bound }))
@@ -148,14 +148,14 @@ taken-row right old row new before after text s n events plan printed proof none
 
 -- ---- what is answered
 
-pub refused-answer : (right : Snapshot → Stated → List ℕ → Type 0) (old : Day) (said : Option Row) (fault : RowFault) (new : Day) (before after : List ℕ)
+pub refused-answer : (right : Right) (old : Day) (said : Option Row) (fault : RowFault) (new : Day) (before after : List ℕ)
     (r : Result RowAnswer AllocError) → fault_of_row old.world (row_number old) said ≡ Some fault → IfOk r (IsRefused old fault new before after)
     → IfOk r (IsRowDone right old said new before after)
 refused-answer right old said fault new before after (Ok answer) is refused = refused-row right old said fault new before after answer is refused
 refused-answer right old said fault new before after (Err error) is refused = tt
 
 -- the same of another wording of the row
-pub answer-said : (right : Snapshot → Stated → List ℕ → Type 0) (old : Day) (said other : Option Row) (new : Day) (before after : List ℕ)
+pub answer-said : (right : Right) (old : Day) (said other : Option Row) (new : Day) (before after : List ℕ)
     (r : Result RowAnswer AllocError) → said ≡ other → IfOk r (IsRowDone right old said new before after) → IfOk r (IsRowDone right old other new before after)
 answer-said right old said other new before after r same done = subst (λ (x : Option Row). IfOk r (IsRowDone right old x new before after)) same done
 
@@ -166,18 +166,8 @@ pub refused-numbered : (old : Day) (fault : RowFault) (new : Day) (before after 
 refused-numbered old fault new before after (Ok answer) refused = ap row_number refused.day ∙ refused-number old
 refused-numbered old fault new before after (Err error) refused = tt
 
-pub done-numbered : (right : Snapshot → Stated → List ℕ → Type 0) (old : Day) (said : Option Row) (new : Day) (before after : List ℕ)
+pub done-numbered : (right : Right) (old : Day) (said : Option Row) (new : Day) (before after : List ℕ)
     (r : Result RowAnswer AllocError) → IfOk r (IsRowDone right old said new before after) → OnOk r (row_number new ≡ row_number old + 1)
 done-numbered right old said new before after (Ok answer) done = ap row_number done.2.day
     ∙ step-number old (row_number old) said done.0 (fault_of_row old.world (row_number old) said)
 done-numbered right old said new before after (Err error) done = tt
-
--- what a planner answered is right by its answers
-pub answered : {F : Type 0} (g : Shared F (Bor Snapshot × Unit {0}) (Result Planned AllocError)) (f : F) (shown : Bor Snapshot) (r : Result Planned AllocError)
-    (planned : Planned) → r ≡ Ok planned → g.post f (shown, tt) r → right_by (FnReturnsAt g f) shown.now planned.stated planned.proof.items
-answered g f shown r planned is met = (
-  planned,
-  record { shown = shown; shows = refl; says = record { met = subst (λ (x : Result Planned AllocError). g.post f (shown, tt) x) is met } },
-  refl,
-  refl,
-)

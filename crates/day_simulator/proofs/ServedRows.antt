@@ -8,7 +8,7 @@ use Rattle.day_state.specs.Openings.{IsOpeningSnapshot}
 use Rattle.day_state.proofs.OpeningLaws.{opening-feasible}
 use Rattle.day_simulator.specs.declared.days.RowAnswer.{RowAnswer}
 use Rattle.day_simulator.specs.Planning.{PlannerLaw}
-use Rattle.day_simulator.specs.Rows.{IsRowDone, next_step}
+use Rattle.day_simulator.specs.Rows.{IsRowDone, held_plan, next_step}
 use Rattle.day_laws.specs.Standing.{row_number}
 use Rattle.day_laws.proofs.DayLemmas.{step-serves}
 use Rattle.day_laws.proofs.ServedLemmas.{IsDayServing, end-served, none-served, opening-serves}
@@ -23,9 +23,10 @@ module _ (right : Right) (law : PlannerLaw right) where
       let printed = done.0 in
       let proof = done.1 in
       let does = done.2 in
-      let is_right = subst (λ (d : Day). IsRightLog (λ s stated. right s stated proof) d.world (next_step old said printed).log) does.day does.right_plan in
+      let held = held_plan old said in
+      let is_right = subst (λ (d : Day). IsRightLog (λ s stated. right s held stated proof) d.world (next_step old said printed).log) does.day does.right_plan in
       subst (λ (d : Day). IsDayServing d (past ++ events_of_log (next_step old said printed).log)) (sym does.day)
-      (step-serves (λ s stated. right s stated proof) (λ s stated h. (law s stated proof h).feasible) old said printed
+      (step-serves (λ s stated. right s held stated proof) (λ s stated h. (law s held stated proof h).feasible) old said printed
       (fault_of_row old.world (row_number old) said) past refl is_right serves)
 
   rows-serve : (old : Day) (rows : List (Option Row)) (new : Day) (text : List ℕ) (past : List Event) → IsDayServing old past

@@ -4,6 +4,7 @@ use Rattle.std.specs.Prelude.{All}
 use Rattle.std.specs.List.{concat}
 use Rattle.std.specs.Io.KnownBytes.{append_known, IsAtEnd}
 use Rattle.elevator_model.specs.Snapshot.{Snapshot}
+use Rattle.elevator_model.specs.declared.Stop.{Stop}
 use Rattle.search_model.specs.declared.Stated.{Stated}
 use Rattle.search_model.specs.Days.{Day, Row}
 use Rattle.lift_text.specs.Lines.{pieces_of, line_of, HasWholeLine}
@@ -21,9 +22,9 @@ use Rattle.day_simulator.specs.declared.row_runs.NextRow.TheVariants.{More, End}
 
 -- ---- what rows do
 
--- what a planner calls right
+-- what a planner calls right: a plan of the snapshot, given the plan that held before
 abbrev pub Right : Type 1
-Right = Snapshot → Stated → List ℕ → Type 0
+Right = Snapshot → (held : List (List Stop)) → Stated → List ℕ → Type 0
 
 -- The first of these rows did what the definition says, with a plan that is right where it was accepted, and its lines
 -- begin the text; and so did the later ones.

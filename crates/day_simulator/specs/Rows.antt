@@ -1,20 +1,21 @@
 -- What a row does to a day and to its log, with what a planner answers.
-use Rattle.std.specs.Prelude.{◌≡◌, ℕ, List, ◌++◌, Option, Result, Ok}
+use Rattle.std.specs.Prelude.{◌≡◌, ℕ, List, [], ◌++◌, Option, Some, None}
 use Rattle.elevator_model.specs.Snapshot.{Snapshot}
-use Rattle.std.specs.declared.alloc.AllocError.{AllocError}
+use Rattle.elevator_model.specs.declared.Stop.{Stop}
+use Rattle.search_model.specs.Advancing.{advanced}
 use Rattle.search_model.specs.declared.RowFault.{RowFault}
 use Rattle.search_model.specs.declared.Stated.{Stated}
 use Rattle.search_model.specs.Days.{Day, Row, RowLog, Step, IsRightLog, code_of_row, day_after_refused, day_step}
 use Rattle.search_model.specs.Days.RowLog.{Refused, Accepted}
 use Rattle.day_simulator.specs.declared.days.RowAnswer.{RowAnswer}
 use Rattle.day_simulator.specs.declared.days.RowAnswer.TheVariants.{Taken, Refused as RefusedBy}
-use Rattle.day_text.specs.declared.printed_plans.Planned.{Planned}
 use Rattle.day_laws.specs.Standing.{row_number}
 use Rattle.day_text.specs.LogTexts.{row_text, refused_text}
 
--- What is right where a planner answers so: what it answers.
-abbrev pub right_by : (Snapshot → Result Planned AllocError → Type 0) → Snapshot → Stated → (proof : List ℕ) → Type 0
-right_by answers s stated proof = (planned : Planned) × answers s (Ok planned) × (planned.stated ≡ stated) × (planned.proof.items ≡ proof)
+-- the plan that holds when the call of the row comes: what is left of the day's plan at its time
+abbrev pub held_plan : Day → Option Row → List (List Stop)
+held_plan day None = []
+held_plan day (Some row) = (advanced day.world row.time).plan
 
 -- what is answered of a row of which the log says this
 abbrev pub answer_of : RowLog → RowAnswer
@@ -25,17 +26,18 @@ answer_of (Accepted number events printed) = Taken printed.cost printed.bound
 abbrev pub next_step : Day → Option Row → Stated → Step
 next_step day said printed = day_step day (row_number day) said printed
 
--- The row did what the definition says with this plan, which is right where the row was accepted, and its lines
--- stand behind what stood before.
-pub record DoesRow (right : Snapshot → Stated → List ℕ → Type 0) (old : Day) (said : Option Row) (new : Day) (before after : List ℕ) (answer : RowAnswer)
-    (printed : Stated) (proof : List ℕ) : Type 0 where
+-- The row did what the definition says with this plan, which is right where the row was accepted, given the plan that held
+-- before, and its lines stand behind what stood before.
+pub record DoesRow (right : Snapshot → (held : List (List Stop)) → Stated → List ℕ → Type 0) (old : Day) (said : Option Row) (new : Day)
+    (before after : List ℕ) (answer : RowAnswer) (printed : Stated) (proof : List ℕ) : Type 0 where
   pub day : new ≡ (next_step old said printed).day
   pub text : after ≡ before ++ row_text new.world.snapshot (next_step old said printed).log proof
-  pub right_plan : IsRightLog (λ s stated. right s stated proof) new.world (next_step old said printed).log
+  pub right_plan : IsRightLog (λ s stated. right s (held_plan old said) stated proof) new.world (next_step old said printed).log
   pub answer_is : answer ≡ answer_of (next_step old said printed).log
 
 -- With some plan it did.
-abbrev pub IsRowDone : (right : Snapshot → Stated → List ℕ → Type 0) → (old : Day) → Option Row → (new : Day) → (before after : List ℕ) → RowAnswer → Type 0
+abbrev pub IsRowDone : (right : Snapshot → (held : List (List Stop)) → Stated → List ℕ → Type 0) → (old : Day) → Option Row → (new : Day)
+    → (before after : List ℕ) → RowAnswer → Type 0
 IsRowDone right old said new before after answer =
     (printed : Stated) × (proof : List ℕ) × DoesRow right old said new before after answer printed proof
 

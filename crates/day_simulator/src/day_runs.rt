@@ -1,10 +1,8 @@
 //! Whole days.
 
 ghost use Rattle.std.specs.Prelude.{◌≡◌, ◌≤◌, None, All, length, IfOk, IsErrOf};
-ghost use Rattle.std.specs.Fn.{FnReturnsAt};
 ghost use Rattle.byte_streams.specs.Streams.{Rose};
 ghost use Rattle.day_simulator.specs.Planning.{PlannerLaw};
-ghost use Rattle.day_simulator.specs.Rows.{right_by};
 ghost use Rattle.lift_text.specs.LineReader.{text, failure};
 ghost use Rattle.search_model.specs.Days.{served_of};
 ghost use Rattle.day_state.specs.Openings.{IsOpeningSnapshot};
@@ -12,13 +10,13 @@ ghost use Rattle.day_laws.specs.Standing.{IsEarly};
 ghost use Rattle.day_simulator.specs.DayRuns.{EndedAs, RanDay};
 
 use crate::days::Day;
+use crate::planners::Planner;
 use crate::row_runs::{RunFault, put, run_rows};
 use byte_streams::{Gate, Sink, Source};
 use call_state::Snapshot;
-use day_text::Planned;
 use lift_text::{LineReader, TEXT_LIMIT};
 use search_model::Served;
-use std::alloc::{AllocError, Global};
+use std::alloc::Global;
 
 /// The first line of a log.
 pub const FIRST_LINE: &[u8] = b"day 1\n";
@@ -61,22 +59,19 @@ fn end_day<K: Sink>(alloc: Global, day: Day, sink: &mut K) -> Result<Ended, RunF
 /// After a fault the log is written as far as the rows go that were done before it; where a write failed, a
 /// beginning of that. Memory may run out at any row and at the end, and then what was written before stays. The
 /// gate is told after each line how many rows were done.
-pub fn run_day<F, S: Source, K: Sink, G: Gate>(
+pub fn run_day<P: Planner, S: Source, K: Sink, G: Gate>(
     alloc: Global,
-    plan: &F,
+    planner: &P,
     opening: Snapshot,
     lines: &mut LineReader<S>,
     sink: &mut K,
     gate: &G,
 ) -> Result<Ended, RunFault>
-where
-    F: Fn(&Snapshot) -> Result<Planned, AllocError>,
-    requires callable { F.IsAlwaysCallable plan.now }
-    requires sound { PlannerLaw (right_by (FnReturnsAt F.Fn plan.now)) }
+    requires sound { PlannerLaw (P.right planner.now) }
     requires opening { IsOpeningSnapshot opening }
     requires unfailed { failure lines.old ≡ None }
     ensures same_source { lines.new.source.ghost_name ≡ lines.old.source.ghost_name }
-    ensures ran { RanDay (right_by (FnReturnsAt F.Fn plan.now)) opening result (text S.left lines.old)
+    ensures ran { RanDay (P.right planner.now) opening result (text S.left lines.old)
         (S.left lines.new.source.now) (K.taken sink.old) (K.taken sink.new) }
     ensures early { IfOk result (λ ended. All IsEarly ended.served.items) }
     ensures few { IfOk result (λ ended. length ended.served.items ≤ TEXT_LIMIT) }
@@ -95,7 +90,7 @@ where
     let Ok(mut day) = Day::new(alloc, opening) else {
         return Err(RunFault::NoMemory);
     };
-    match run_rows(alloc, plan, lines, &mut day, sink, gate) {
+    match run_rows(alloc, planner, lines, &mut day, sink, gate) {
         Ok(()) => {
             // For the proof: a line's number is at most 67,108,864.
             let _last = lines.line();

@@ -13,15 +13,15 @@ ghost use Rattle.day_simulator.specs.Logged.{day_call, day_calls, day_of};
 ghost use Rattle.day_text.specs.LogTexts.{end_text};
 ghost use Rattle.day_laws.specs.Arrivals.{IsBrought};
 ghost use Rattle.day_laws.specs.Standing.{IdsRise, IsEarly, IsStanding, row_number};
-ghost use Rattle.std.specs.Fn.{FnReturnsAt};
 ghost use Rattle.day_simulator.specs.Planning.{PlannerLaw};
-ghost use Rattle.day_simulator.specs.Rows.{IsRowDone, IsRefused, right_by};
+ghost use Rattle.day_simulator.specs.Rows.{IsRowDone, IsRefused};
 
 use crate::logged::{LoggedCall, add_call, delivered_count, note_all, served_by};
+use crate::planners::Planner;
 use call_state::Snapshot;
 use day_laws::world_of_row;
 use day_state::World;
-use day_text::{GoodRow, Planned, add_accepted, code_of, put_end, put_refused, read_row};
+use day_text::{GoodRow, add_accepted, code_of, put_end, put_refused, read_row};
 use search_model::{Event, RowFault, Served};
 use std::alloc::{AllocError, Global};
 use std::marker::Model;
@@ -215,29 +215,31 @@ impl Day {
         Ok(())
     }
 
-    /// Asks for a plan in this world, which has taken the call of the next row, and goes on with it.
-    fn accept<F: Fn(&Snapshot) -> Result<Planned, AllocError>>(
+    /// Asks for a plan in this world, which has taken the call of the next row and has the plan that held until
+    /// then, and goes on with it.
+    fn accept<P: Planner>(
         &mut self,
         alloc: Global,
-        plan: &F,
+        planner: &P,
         world: &mut World,
         row: &GoodRow,
         events: &[Event],
         out: &mut Vec<u8>,
     ) -> Result<RowAnswer, AllocError>
-        requires callable { F.IsAlwaysCallable plan.now }
-        requires sound { PlannerLaw (right_by (FnReturnsAt F.Fn plan.now)) }
+        requires sound { PlannerLaw (P.right planner.now) }
         requires number { row_number self.old < 2 ^ 32 }
         requires taken { fault_of_row self.old.world (row_number self.old) (Some (row_as_said row.now)) ≡ None }
         requires world { world.old.snapshot ≡ (with_call (advanced self.old.world row.now.time)
             (call_of_row (row_number self.old) (row_as_said row.now)) []).snapshot }
+        requires held { world.old.plan ≡ (advanced self.old.world row.now.time).plan }
         requires events { events.now ≡ events_by self.old.world row.now.time }
-        ensures row { IfOk result (λ answer. IsRowDone (right_by (FnReturnsAt F.Fn plan.now)) self.old
+        ensures row { IfOk result (λ answer. IsRowDone (P.right planner.now) self.old
             (Some (row_as_said row.now)) self.new out.old.items out.new.items answer) }
         ensures as_before { OnErr result (self.new ≡ self.old) }
         ensures log_as_before { OnErr result (out.new.items ≡ out.old.items) }
     {
-        let planned = plan(world.snapshot())?;
+        let held = world.plan();
+        let planned = planner.plan(world.snapshot(), held)?;
         let before = out.len();
         add_accepted(
             alloc,
@@ -276,47 +278,45 @@ impl Day {
     }
 
     /// Takes or refuses a row whose numbers lie in their ranges.
-    fn good_row<F: Fn(&Snapshot) -> Result<Planned, AllocError>>(
+    fn good_row<P: Planner>(
         &mut self,
         alloc: Global,
-        plan: &F,
+        planner: &P,
         row: &GoodRow,
         out: &mut Vec<u8>,
     ) -> Result<RowAnswer, AllocError>
-        requires callable { F.IsAlwaysCallable plan.now }
-        requires sound { PlannerLaw (right_by (FnReturnsAt F.Fn plan.now)) }
+        requires sound { PlannerLaw (P.right planner.now) }
         requires number { row_number self.old < 2 ^ 32 }
         requires good { IsTrue (is_row self.old.world.snapshot.building (row_as_said row.now)) }
-        ensures row { IfOk result (λ answer. IsRowDone (right_by (FnReturnsAt F.Fn plan.now)) self.old
+        ensures row { IfOk result (λ answer. IsRowDone (P.right planner.now) self.old
             (Some (row_as_said row.now)) self.new out.old.items out.new.items answer) }
         ensures as_before { OnErr result (self.new ≡ self.old) }
         ensures log_as_before { OnErr result (out.new.items ≡ out.old.items) }
     {
         let mut events = Vec::new(alloc);
         match self.brought(alloc, row, &mut events)? {
-            Ok(mut world) => self.accept(alloc, plan, &mut world, row, events.as_slice(), out),
+            Ok(mut world) => self.accept(alloc, planner, &mut world, row, events.as_slice(), out),
             Err(fault) => self.refuse(fault, out),
         }
     }
 
     /// Takes or refuses the next row.
-    fn any_row<F: Fn(&Snapshot) -> Result<Planned, AllocError>>(
+    fn any_row<P: Planner>(
         &mut self,
         alloc: Global,
-        plan: &F,
+        planner: &P,
         bytes: &[u8],
         out: &mut Vec<u8>,
     ) -> Result<RowAnswer, AllocError>
-        requires callable { F.IsAlwaysCallable plan.now }
-        requires sound { PlannerLaw (right_by (FnReturnsAt F.Fn plan.now)) }
+        requires sound { PlannerLaw (P.right planner.now) }
         requires number { row_number self.old < 2 ^ 32 }
-        ensures row { IfOk result (λ answer. IsRowDone (right_by (FnReturnsAt F.Fn plan.now)) self.old
+        ensures row { IfOk result (λ answer. IsRowDone (P.right planner.now) self.old
             (row_of_line bytes.now) self.new out.old.items out.new.items answer) }
         ensures as_before { OnErr result (self.new ≡ self.old) }
         ensures log_as_before { OnErr result (out.new.items ≡ out.old.items) }
     {
         match read_row(alloc, self.world.snapshot().building(), bytes)? {
-            Some(row) => self.good_row(alloc, plan, &row, out),
+            Some(row) => self.good_row(alloc, planner, &row, out),
             None => self.refuse(RowFault::NoRow, out),
         }
     }
@@ -331,24 +331,23 @@ impl Day {
     /// planner; one that is refused changes nothing but the count of rows.
     ///
     /// It fails only where there is no memory left: then the day and the log are as before.
-    pub fn row<F: Fn(&Snapshot) -> Result<Planned, AllocError>>(
+    pub fn row<P: Planner>(
         &mut self,
         alloc: Global,
-        plan: &F,
+        planner: &P,
         bytes: &[u8],
         out: &mut Vec<u8>,
     ) -> Result<RowAnswer, AllocError>
-        requires callable { F.IsAlwaysCallable plan.now }
-        requires sound { PlannerLaw (right_by (FnReturnsAt F.Fn plan.now)) }
+        requires sound { PlannerLaw (P.right planner.now) }
         requires number { row_number self.old < 2 ^ 32 }
-        ensures row { IfOk result (λ answer. IsRowDone (right_by (FnReturnsAt F.Fn plan.now)) self.old
+        ensures row { IfOk result (λ answer. IsRowDone (P.right planner.now) self.old
             (row_of_line bytes.now) self.new out.old.items out.new.items answer) }
         ensures none_lost { IsTrue (loses_none self.new) }
         ensures number { OnOk result (row_number self.new ≡ row_number self.old + 1) }
         ensures as_before { OnErr result (self.new ≡ self.old) }
         ensures log_as_before { OnErr result (out.new.items ≡ out.old.items) }
     {
-        let answer = self.any_row(alloc, plan, bytes, out);
+        let answer = self.any_row(alloc, planner, bytes, out);
         // For the proof: a reader tells that no call is lost.
         let _unsolved = self.unsolved();
         answer

@@ -7,12 +7,12 @@
 //!
 //! # What is promised
 //!
-//! - `Day::new`, `row`, `long_row`, for any planner (a function whose answers are plans that keep
+//! - `Day::new`, `row`, `long_row`, for any planner (a `Planner` whose answers are plans that keep
 //!   `PlannerLaw`: feasible, of the stated cost, with a bound that no feasible plan costs less than): the day
 //!   of the definition. A row does exactly its step (`day_step`), with a plan that is right in the planner's
-//!   sense (`right_by`, `IsRowDone`), and its lines are appended to the log. No accepted call is lost. The
-//!   number of rows grows by one. When out of memory day and log are as before. By induction over its calls a
-//!   caller has `day_run`.
+//!   sense for the snapshot with the call and the plan that held until then (`Planner::right`, `held_plan`,
+//!   `IsRowDone`), and its lines are appended to the log. No accepted call is lost. The number of rows grows
+//!   by one. When out of memory day and log are as before. By induction over its calls a caller has `day_run`.
 //! - `Day::finish`, `unsolved`: the rest of the log, exactly, and the served calls in the order of their ids;
 //!   each accepted call is delivered then, boarded and delivered by 10^10 ms, so a report's sums stay small;
 //!   how many rows had a bound below their cost.
@@ -30,9 +30,10 @@
 //! out of the log again; the lines are those of `day_text`. An event finds its call by binary search, since
 //! the calls are in the order of their ids.
 //!
-//! A planner is a function: what it answers for a snapshot is a feasible plan with its cost, and a bound that
-//! no feasible plan costs less than, and it fails only where there is no memory left. Whoever calls shows
-//! this of the function (`PlannerLaw`).
+//! A planner is lent the snapshot with the new call and what is left of the plan that held before it came,
+//! which it may keep or leave. What it answers is a feasible plan of the snapshot with its cost, and a bound
+//! that no feasible plan costs less than, and it fails only where there is no memory left. Whoever calls shows
+//! this of what the planner calls right (`PlannerLaw`).
 //!
 //! # A day over lines
 //!
@@ -53,6 +54,7 @@
 mod day_runs;
 mod days;
 mod logged;
+mod planners;
 mod row_runs;
 mod text_runs;
 
@@ -61,6 +63,7 @@ pub use day_runs::{Ended, FIRST_LINE, run_day};
 pub use day_text::Planned;
 pub use days::{Day, RowAnswer};
 pub use elevator_model::Plan;
+pub use planners::Planner;
 pub use row_runs::RunFault;
 pub use search_model::Served;
 pub use text_runs::{DayFault, run_day_text};

@@ -3,10 +3,8 @@
 ghost use Rattle.std.specs.Prelude.{◌≡◌, ◌≤◌, ◌<◌, ◌+◌, ◌^◌, [], ◌∷◌, None, IsTrue, IfOk, IfErr, OnErr, OnOk};
 ghost use Rattle.std.specs.Prelude.{IsErrOf, length, take, ℕ, true, false};
 ghost use Rattle.std.specs.Io.KnownBytes.{append_known};
-ghost use Rattle.std.specs.Fn.{FnReturnsAt};
 ghost use Rattle.byte_streams.specs.Streams.{Rose};
 ghost use Rattle.day_simulator.specs.Planning.{PlannerLaw};
-ghost use Rattle.day_simulator.specs.Rows.{right_by};
 ghost use Rattle.lift_text.specs.LineReader.{text, line, failure, has_ended};
 ghost use Rattle.lift_text.specs.Reading.{HaveLineFeeds};
 ghost use Rattle.search_model.specs.Days.{day_after_refused, loses_none};
@@ -18,9 +16,8 @@ ghost use Rattle.day_simulator.specs.RowRuns.{AreRowsDone, DidNext, Ran, WroteNe
 ghost use Rattle.day_simulator.specs.RowRuns.{next_after, next_written};
 
 use crate::days::Day;
+use crate::planners::Planner;
 use byte_streams::{Gate, Progress, Sink, Source, put_all};
-use call_state::Snapshot;
-use day_text::Planned;
 use lift_text::{LINE_COUNT_BOUND, LINE_LIMIT, LineReader, RawLine, TextFault};
 use std::alloc::{AllocError, Global};
 
@@ -76,45 +73,43 @@ fn do_long_line(day: &mut Day, out: &mut Vec<u8>) -> Result<(), AllocError>
 
 /// Does what a line of at most 4,096 bytes says, and puts what the log says of it into the empty text. A line
 /// of no bytes is no row.
-fn do_short_line<F: Fn(&Snapshot) -> Result<Planned, AllocError>>(
+fn do_short_line<P: Planner>(
     alloc: Global,
-    plan: &F,
+    planner: &P,
     line: &[u8],
     day: &mut Day,
     out: &mut Vec<u8>,
 ) -> Result<(), AllocError>
-    requires callable { F.IsAlwaysCallable plan.now }
-    requires sound { PlannerLaw (right_by (FnReturnsAt F.Fn plan.now)) }
+    requires sound { PlannerLaw (P.right planner.now) }
     requires number { row_number day.old < 2 ^ 32 }
     requires none_lost { IsTrue (loses_none day.old) }
     requires empty { out.old.items ≡ [] }
-    ensures done { OnOk result (AreRowsDone (right_by (FnReturnsAt F.Fn plan.now)) day.old
+    ensures done { OnOk result (AreRowsDone (P.right planner.now) day.old
         (rows_of_short line.now) day.new out.new.items) }
     ensures number { row_number day.new ≤ row_number day.old + 1 }
     ensures as_before { OnErr result (day.new ≡ day.old) }
     ensures none_lost { IsTrue (loses_none day.new) }
 {
     if !line.is_empty() {
-        day.row(alloc, plan, line, out)?;
+        day.row(alloc, planner, line, out)?;
     }
     Ok(())
 }
 
 /// Does what a line says, and puts what the log says of it into the empty text. A line of no bytes is no row,
 /// and one of more than 4,096 bytes says nothing.
-fn do_line<F: Fn(&Snapshot) -> Result<Planned, AllocError>>(
+fn do_line<P: Planner>(
     alloc: Global,
-    plan: &F,
+    planner: &P,
     line: &[u8],
     day: &mut Day,
     out: &mut Vec<u8>,
 ) -> Result<(), AllocError>
-    requires callable { F.IsAlwaysCallable plan.now }
-    requires sound { PlannerLaw (right_by (FnReturnsAt F.Fn plan.now)) }
+    requires sound { PlannerLaw (P.right planner.now) }
     requires number { row_number day.old < 2 ^ 32 }
     requires none_lost { IsTrue (loses_none day.old) }
     requires empty { out.old.items ≡ [] }
-    ensures done { OnOk result (AreRowsDone (right_by (FnReturnsAt F.Fn plan.now)) day.old
+    ensures done { OnOk result (AreRowsDone (P.right planner.now) day.old
         (rows_of_line line.now) day.new out.new.items) }
     ensures number { row_number day.new ≤ row_number day.old + 1 }
     ensures as_before { OnErr result (day.new ≡ day.old) }
@@ -123,7 +118,7 @@ fn do_line<F: Fn(&Snapshot) -> Result<Planned, AllocError>>(
     if line.len() > LINE_LIMIT {
         do_long_line(day, out)
     } else {
-        do_short_line(alloc, plan, line, day, out)
+        do_short_line(alloc, planner, line, day, out)
     }
 }
 
@@ -159,23 +154,20 @@ fn fault_of(fault: TextFault) -> RunFault
 }
 
 /// Reads the next line, does what it says, and puts what the log says of it into the empty text.
-fn do_next<F, S: Source>(
+fn do_next<P: Planner, S: Source>(
     alloc: Global,
-    plan: &F,
+    planner: &P,
     lines: &mut LineReader<S>,
     day: &mut Day,
     out: &mut Vec<u8>,
 ) -> Result<NextRow, RunFault>
-where
-    F: Fn(&Snapshot) -> Result<Planned, AllocError>,
-    requires callable { F.IsAlwaysCallable plan.now }
-    requires sound { PlannerLaw (right_by (FnReturnsAt F.Fn plan.now)) }
+    requires sound { PlannerLaw (P.right planner.now) }
     requires unfailed { failure lines.old ≡ None }
     requires number { row_number day.old ≤ line lines.old + 1 }
     requires none_lost { IsTrue (loses_none day.old) }
     requires empty { out.old.items ≡ [] }
     ensures same_source { lines.new.source.ghost_name ≡ lines.old.source.ghost_name }
-    ensures next { DidNext (right_by (FnReturnsAt F.Fn plan.now)) day.old day.new result out.new.items
+    ensures next { DidNext (P.right planner.now) day.old day.new result out.new.items
         (text S.left lines.old)
         (text S.left lines.new) (S.left lines.new.source.now) }
     ensures none_lost { IsTrue (loses_none day.new) }
@@ -194,7 +186,7 @@ where
     // For the proof: a line's number is at most 67,108,864.
     let _number = lines.line();
     match lines.raw_line() {
-        Ok(RawLine::Line) => next_after(do_line(alloc, plan, lines.raw(), day, out)),
+        Ok(RawLine::Line) => next_after(do_line(alloc, planner, lines.raw(), day, out)),
         Ok(RawLine::Long) => next_after(do_long_line(day, out)),
         Ok(RawLine::End) => Ok(NextRow::End),
         Err(fault) => Err(fault_of(fault)),
@@ -202,22 +194,19 @@ where
 }
 
 /// Reads the next line, does what it says, and writes what the log says of it.
-fn write_next<F, S: Source, K: Sink>(
+fn write_next<P: Planner, S: Source, K: Sink>(
     alloc: Global,
-    plan: &F,
+    planner: &P,
     lines: &mut LineReader<S>,
     day: &mut Day,
     sink: &mut K,
 ) -> Result<NextRow, RunFault>
-where
-    F: Fn(&Snapshot) -> Result<Planned, AllocError>,
-    requires callable { F.IsAlwaysCallable plan.now }
-    requires sound { PlannerLaw (right_by (FnReturnsAt F.Fn plan.now)) }
+    requires sound { PlannerLaw (P.right planner.now) }
     requires unfailed { failure lines.old ≡ None }
     requires number { row_number day.old ≤ line lines.old + 1 }
     requires none_lost { IsTrue (loses_none day.old) }
     ensures same_source { lines.new.source.ghost_name ≡ lines.old.source.ghost_name }
-    ensures next { WroteNext (right_by (FnReturnsAt F.Fn plan.now)) day.old day.new result (text S.left lines.old)
+    ensures next { WroteNext (P.right planner.now) day.old day.new result (text S.left lines.old)
         (text S.left lines.new) (S.left lines.new.source.now) (K.taken sink.old) (K.taken sink.new) }
     ensures none_lost { IsTrue (loses_none day.new) }
     ensures unfailed { OnOk result (failure lines.new ≡ None) }
@@ -235,7 +224,7 @@ where
     ensures sink_counted { K.faults sink.old ≤ K.faults sink.new }
 {
     let mut out = Vec::new(alloc);
-    match do_next(alloc, plan, lines, day, &mut out) {
+    match do_next(alloc, planner, lines, day, &mut out) {
         Ok(NextRow::More) => next_written(put(sink, out.as_slice())),
         Ok(NextRow::End) => Ok(NextRow::End),
         Err(fault) => Err(fault),
@@ -247,23 +236,20 @@ where
 ///
 /// After a fault the rows before it are done and written; where a write failed, the last of them in part. After
 /// each line the gate is told how many rows were done.
-pub(crate) fn run_rows<F, S: Source, K: Sink, G: Gate>(
+pub(crate) fn run_rows<P: Planner, S: Source, K: Sink, G: Gate>(
     alloc: Global,
-    plan: &F,
+    planner: &P,
     lines: &mut LineReader<S>,
     day: &mut Day,
     sink: &mut K,
     gate: &G,
 ) -> Result<(), RunFault>
-where
-    F: Fn(&Snapshot) -> Result<Planned, AllocError>,
-    requires callable { F.IsAlwaysCallable plan.now }
-    requires sound { PlannerLaw (right_by (FnReturnsAt F.Fn plan.now)) }
+    requires sound { PlannerLaw (P.right planner.now) }
     requires unfailed { failure lines.old ≡ None }
     requires number { row_number day.old ≤ line lines.old + 1 }
     requires none_lost { IsTrue (loses_none day.old) }
     ensures same_source { lines.new.source.ghost_name ≡ lines.old.source.ghost_name }
-    ensures ran { Ran (right_by (FnReturnsAt F.Fn plan.now)) day.old day.new result (text S.left lines.old)
+    ensures ran { Ran (P.right planner.now) day.old day.new result (text S.left lines.old)
         (S.left lines.new.source.now) (K.taken sink.old) (K.taken sink.new) }
     ensures none_lost { IsTrue (loses_none day.new) }
     ensures number { OnOk result (row_number day.new ≤ line lines.new + 1) }
@@ -274,7 +260,7 @@ where
     ensures sink_counted { K.faults sink.old ≤ K.faults sink.new }
 {
     'lines: for _ in 0..LINE_COUNT_BOUND {
-        match write_next(alloc, plan, lines, day, sink) {
+        match write_next(alloc, planner, lines, day, sink) {
             Ok(NextRow::More) => gate.tell(Progress::Rows(day.rows())),
             Ok(NextRow::End) => return Ok(()),
             Err(fault) => return Err(fault),

@@ -1,22 +1,20 @@
 //! Days from their text.
 
 ghost use Rattle.std.specs.Prelude.{◌≡◌, ◌<◌, ◌≤◌, ◌^◌, None, IfOk, IsSomeAnd};
-ghost use Rattle.std.specs.Fn.{FnReturnsAt};
 ghost use Rattle.byte_streams.specs.Streams.{Rose};
 ghost use Rattle.day_simulator.specs.Planning.{PlannerLaw};
-ghost use Rattle.day_simulator.specs.Rows.{right_by};
 ghost use Rattle.lift_text.specs.LineReader.{text, failure};
 ghost use Rattle.search_model.specs.Reports.{report_of};
 ghost use Rattle.day_simulator.specs.TextRuns.{DayAnswered, EndsUnlessFailed, IsDayText, IsUnread};
 ghost use Rattle.day_simulator.specs.TextRuns.{IsUnwritten};
 
 use crate::day_runs::{Ended, run_day};
+use crate::planners::Planner;
 use crate::row_runs::RunFault;
 use byte_streams::{Gate, Sink, Source};
-use call_state::Snapshot;
-use day_text::{Planned, read_day_opening};
+use day_text::read_day_opening;
 use lift_text::{LineReader, TextFault};
-use std::alloc::{AllocError, Global};
+use std::alloc::Global;
 
 /// Why a day did not come to its end.
 #[derive(Clone, Copy)]
@@ -32,20 +30,17 @@ pub enum DayFault {
 /// the bytes that were taken. The gate is told after each line how many rows were done.
 ///
 /// The sums of the served calls' times have at most 64 bits.
-pub fn run_day_text<F, S: Source, K: Sink, G: Gate>(
+pub fn run_day_text<P: Planner, S: Source, K: Sink, G: Gate>(
     alloc: Global,
-    plan: &F,
+    planner: &P,
     lines: &mut LineReader<S>,
     sink: &mut K,
     gate: &G,
 ) -> Result<Ended, DayFault>
-where
-    F: Fn(&Snapshot) -> Result<Planned, AllocError>,
-    requires callable { F.IsAlwaysCallable plan.now }
-    requires sound { PlannerLaw (right_by (FnReturnsAt F.Fn plan.now)) }
+    requires sound { PlannerLaw (P.right planner.now) }
     requires unfailed { failure lines.old ≡ None }
     ensures same_source { lines.new.source.ghost_name ≡ lines.old.source.ghost_name }
-    ensures answered { DayAnswered (right_by (FnReturnsAt F.Fn plan.now)) (text S.left lines.old)
+    ensures answered { DayAnswered (P.right planner.now) (text S.left lines.old)
         (S.left lines.new.source.now)
         (K.taken sink.old) (K.taken sink.new) result }
     ensures ends { IsSomeAnd (text S.left lines.old) IsDayText → EndsUnlessFailed result }
@@ -57,7 +52,7 @@ where
     ensures sink_counted { K.faults sink.old ≤ K.faults sink.new }
 {
     match read_day_opening(alloc, lines) {
-        Ok(opening) => match run_day(alloc, plan, opening, lines, sink, gate) {
+        Ok(opening) => match run_day(alloc, planner, opening, lines, sink, gate) {
             Ok(ended) => Ok(ended),
             Err(fault) => Err(DayFault::Rows(fault)),
         },

@@ -11,16 +11,16 @@ ghost use Rattle.group_commands.specs.BanksOutcome.{AnswersBanks, AreTold, Banks
 ghost use Rattle.group_commands.specs.BanksOutcome.{RefusesBanks, status_of_logs as status_of_logs_lem};
 
 use crate::crews::{ByCrew, GroupCrew};
-use crate::planning::Searches;
 use crate::writing::banks_text;
 use bank_days::{BankLog, run_banks};
 use bank_text::{BankFault, BankInput, MOST_BANKS, read_banks};
-use byte_streams::{Gate, Sink, Source};
+use byte_streams::{Gate, OpenGate, Sink, Source};
 use command_ends::{Answer, Status, put, put_fault, put_too_many_banks, put_used_id};
+use day_planner::Searches;
 use lift_text::{LineReader, TextFault};
 use search_model::Limits;
 use std::alloc::{AllocError, Global};
-use work_fan::Runtime;
+use work_fan::{Alone, Runtime, Workers};
 
 /// The banks, with their rows, that the whole input is the text of.
 fn read_input<S: Source>(alloc: Global, source: &mut S) -> Result<BankInput, BankFault>
@@ -75,10 +75,14 @@ fn answer_of<C: GroupCrew, G: Gate>(
     ensures { IfOk result (λ answer. AreTold limits.rounds limits.most_tours banks.now answer.status
         answer.text.items) }
 {
-    let planner = Searches {
+    let alone = Alone::new(&OpenGate);
+    let lone = Runtime {
+        crew: &alone,
+        workers: Workers::one(),
         alloc: runtime.alloc,
-        limits,
+        gate: &OpenGate,
     };
+    let planner = Searches::new(&lone, limits, None);
     let by_crew = ByCrew { crew: runtime.crew };
     let days = Runtime {
         crew: &by_crew,

@@ -1,6 +1,6 @@
 //! Who runs the days of banks that searches plan.
 
-ghost use Rattle.std.specs.Prelude.{◌≡◌, ℕ, All, IfOk, None, Some, length, slice_get};
+ghost use Rattle.std.specs.Prelude.{◌≡◌, ℕ, All, IfOk, Some, length, slice_get};
 ghost use Rattle.work_fan.specs.Work.{Serving};
 ghost use Rattle.bank_text.specs.declared.banks.Bank.{Bank as BankValue};
 ghost use Rattle.day_simulator.specs.Planning.{PlannerLaw};
@@ -24,12 +24,12 @@ pub trait GroupCrew {
         desks: &mut [()],
     ) -> Result<Vec<BankLog>, AllocError>
         requires { Serving (λ desk. PlannerLaw (IsSolvedRow jobs.now.planner.now.limits.rounds
-            jobs.now.planner.now.limits.most_tours None)) desks.old }
+            jobs.now.planner.now.limits.most_tours jobs.now.planner.now.claims)) desks.old }
         ensures count { IfOk result (λ logs. length logs.items ≡ length jobs.now.banks.now) }
         ensures right { IfOk result (λ logs. (k : ℕ) (log : BankLog) → slice_get logs.items k ≡ Some log
             → (bank : BankValue) → slice_get jobs.now.banks.now k ≡ Some bank
             → IsBankLog (IsSolvedRow jobs.now.planner.now.limits.rounds
-            jobs.now.planner.now.limits.most_tours None) bank log) };
+            jobs.now.planner.now.limits.most_tours jobs.now.planner.now.claims) bank log) };
 }
 
 impl<G: Gate> GroupCrew for Alone<'_, G> {
@@ -49,11 +49,11 @@ pub(crate) struct ByCrew<'c, C: GroupCrew> {
     pub(crate) crew: &'c C,
 }
 
-impl<C: GroupCrew> BanksCrew<Searches> for ByCrew<'_, C> {
+impl<'s, C: GroupCrew> BanksCrew<Searches<'s>> for ByCrew<'_, C> {
     fn run_all(
         &self,
         alloc: Global,
-        jobs: &BankJobs<Searches>,
+        jobs: &BankJobs<Searches<'s>>,
         desks: &mut [()],
     ) -> Result<Vec<BankLog>, AllocError> {
         self.crew.run_all(alloc, jobs, desks)

@@ -1,5 +1,5 @@
-//! A day with a planner of the test's own: it gives the cheapest plan with a bound that is less, and a text
-//! in place of the plan's lines.
+//! A day with a planner of the test's own: it gives the cheapest plan with a bound that is less, and in place of
+//! the plan's lines how many stops are left of the plan that held before.
 
 ghost use Rattle.std.specs.Prelude.{◌≡◌, None, IfOk};
 ghost use Rattle.lift_text.specs.LineReader.{failure};
@@ -8,17 +8,26 @@ ghost use Rattle.day_simulator.specs.Planning.{IsRightPlan};
 use crate::texts::makers::{OfLines, is_so_of};
 use byte_streams::{MemorySink, MemorySource, OpenGate};
 use call_state::Snapshot;
-use day_simulator::{Ended, Planned, run_day_text};
-use lift_text::LineReader;
+use day_simulator::{Ended, Plan, Planned, Planner, run_day_text};
+use lift_text::{LineReader, put_line};
 use plain_solver::cheapest_plan;
 use search_model::{Served, Stated};
 use std::alloc::{AllocError, Global};
 
-/// A right plan of the snapshot.
-fn planned(alloc: Global, snapshot: &Snapshot) -> Result<Planned, AllocError>
+/// How many stops the first tour of the plan has.
+fn first_stops(plan: &Plan) -> u64 {
+    match plan.tours().first() {
+        Some(tour) => tour.stops().len() as u64,
+        None => 0,
+    }
+}
+
+/// A right plan of the snapshot, and how many stops were held.
+fn planned(alloc: Global, snapshot: &Snapshot, held: u64) -> Result<Planned, AllocError>
     ensures { IfOk result (λ planned. IsRightPlan snapshot.now planned.stated) }
 {
-    let proof = Vec::from_slice(alloc, b"as proved\n")?;
+    let mut proof = Vec::new(alloc);
+    put_line(&mut proof, b"held", &[held])?;
     let cheapest = cheapest_plan(alloc, snapshot)?;
     let bound = cheapest.cost.saturating_sub(1);
     Ok(Planned {
@@ -31,6 +40,22 @@ fn planned(alloc: Global, snapshot: &Snapshot) -> Result<Planned, AllocError>
     })
 }
 
+/// Plans each row anew, and tells what it is lent.
+#[derive(Drop)]
+struct Cheapest {
+    alloc: Global,
+}
+
+impl Planner for Cheapest {
+    ghost use Rattle.day_simulator.specs.Planning.{IsRightPlan};
+
+    ghost right = { λ _ s held stated proof. IsRightPlan s stated };
+
+    fn plan(&self, snapshot: &Snapshot, held: &Plan) -> Result<Planned, AllocError> {
+        planned(self.alloc, snapshot, first_stops(held))
+    }
+}
+
 /// How the day of these lines ends.
 fn ended(
     alloc: Global,
@@ -39,10 +64,7 @@ fn ended(
 ) -> Option<Ended>
     requires { failure lines.old ≡ None }
 {
-    let plan = |snapshot: &Snapshot|
-        ensures { IfOk result (λ planned. IsRightPlan snapshot.now planned.stated) }
-    { planned(alloc, snapshot) };
-    run_day_text(alloc, &plan, lines, sink, &OpenGate).ok()
+    run_day_text(alloc, &Cheapest { alloc }, lines, sink, &OpenGate).ok()
 }
 
 const DAY: &[u8] = b"building 1
@@ -58,28 +80,35 @@ car 1 idle 0 0
 end
 time,origin,destination,persons
 0,0,1,1
-4,1,1,1";
+4,1,1,1
+3000,2,0,1";
 
 const LOG: &[u8] = b"day 1
 row 1 accepted
-as proved
+held 0
 row 2 refused 41
+row 3 accepted
 board 1 1 1000
+held 1
 deliver 1 1 7500
-total 1 1 1
+board 3 1 14000
+deliver 3 1 22500
+total 2 1 2
 end
-# stopped 1
+# stopped 2
 ";
 
-/// Whether this is the one call that is served.
-fn is_served(served: &Served) -> bool {
-    served.call == 1 && served.released == 0 && served.boarded == 1000 && served.delivered == 7500
+/// Whether this call boarded and was delivered at these moments.
+fn is_served(served: &Served, call: u32, boarded: u64, delivered: u64) -> bool {
+    served.call == call && served.boarded == boarded && served.delivered == delivered
 }
 
-/// Whether the one call was served so, and the row has a bound below its cost.
+/// Whether the two calls were served so, and both rows have a bound below their cost.
 fn is_due(end: &Ended) -> bool {
     match end.served.as_slice() {
-        [served] => end.unsolved == 1 && is_served(served),
+        [first, last] => {
+            end.unsolved == 2 && is_served(first, 1, 1000, 7500) && is_served(last, 3, 14000, 22500)
+        }
         _ => false,
     }
 }
@@ -107,6 +136,6 @@ impl OfLines for IsWritten {
 }
 
 #[test]
-fn a_proof_in_place_of_the_plan(rt: HostRuntime) {
+fn a_planner_is_lent_the_plan_that_held(rt: HostRuntime) {
     assert!(rt; is_so_of(rt.alloc(), DAY, 11, &IsWritten));
 }

@@ -3,8 +3,8 @@ use Rattle.bank_days.proofs.running.run_row.Goals as goal
 
 pub returns-in-Fields-clause-done : goal.returns-in-Fields-clause-done
 returns-in-Fields-clause-done g c =
-    fields-done (g.P.Planner.right c.args.planner.now) c.args.day.now c.run_line.new.day c.args.row.now c.in-Fields.line c.as_slice.result.now
-    c.args.log.now.items c.run_line.new.log.items c.run_line.result c.in-Fields.is c.as_slice.ensures.value c.run_line.ensures.done
+    fields-done (g.P.Planner.right c.args.planner.now) c.args.day.now c.row.new.self c.args.row.now c.in-Fields.line c.as_slice.result.now
+    c.args.log.now.items c.row.new.out.items c.row.result c.in-Fields.is c.as_slice.ensures.value c.row.ensures.row
 
 pub returns-in-Other-clause-done : goal.returns-in-Other-clause-done
 returns-in-Other-clause-done g c =

@@ -30,4 +30,4 @@ returns c =
     brought-unless old n row events c.in_ok-fault.fault c.offer.new.world c.unless.result c.unless.ensures.world c.unless.ensures.fault
     (brought-fault old n row w c.call.result c.in_ok-fault.fault c.requires.good there moved c.call.ensures (sym fault))
     (λ none. brought-world old n row w c.offer.new.world c.call.result c.args.events.now.items events c.requires.good there moved c.call.ensures
-    (sym fault ∙ none) (c.in_ok-fault.ensures.taken none) c.requires.none c.in_ok-later.ensures.events)
+    (sym fault ∙ none) (c.in_ok-fault.ensures.taken none) c.in_ok-fault.ensures.held c.requires.none c.in_ok-later.ensures.events)

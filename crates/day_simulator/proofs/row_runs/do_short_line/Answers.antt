@@ -1,5 +1,3 @@
-use Rattle.std.specs.Fn.{FnReturnsAt}
-use Rattle.day_simulator.specs.Rows.{right_by}
 use Rattle.std.proofs.Common.{subst, List, ℕ}
 use Rattle.day_text.specs.Records.{row_of_line}
 use Rattle.day_simulator.specs.Rows.{IsRowDone}
@@ -8,7 +6,7 @@ use Rattle.day_simulator.proofs.row_runs.do_short_line.Goals as goal
 
 pub returns-in_ok-row-clause-done : goal.returns-in_ok-row-clause-done
 returns-in_ok-row-clause-done g c =
-    let right = right_by (FnReturnsAt g.F.Fn c.args.plan.now) in
+    let right = g.P.Planner.right c.args.planner.now in
     let did = subst (λ (before : List ℕ).
     IsRowDone right c.args.day.now (row_of_line c.args.line.now) c.row.new.self before c.row.new.out.items c.in_ok-row.field-0) c.requires.empty
     c.in_ok-row.ensures.row in

@@ -1,5 +1,3 @@
-use Rattle.std.specs.Fn.{FnReturnsAt}
-use Rattle.day_simulator.specs.Rows.{right_by}
 use Rattle.std.proofs.Common.{refl, arith, ◌∙◌}
 use Rattle.lift_text.specs.LineReader.{text, has_ended}
 use Rattle.day_simulator.proofs.StepLemmas.{ran-end, ran-fault, line-so-far}
@@ -11,7 +9,7 @@ returns-in-Ok-End-clause-ran g c =
     let taken = g.K.Sink.taken in
     let did = rw c.in-Ok-End.field-0-is at c.in-Ok-End.ensures in
     let new = c.write_next.new in
-    ran-end (right_by (FnReturnsAt g.F.Fn c.args.plan.now)) c.args.day.now c.lines.day new.day (text left c.args.lines.now) (text left c.lines.lines)
+    ran-end (g.P.Planner.right c.args.planner.now) c.args.day.now c.lines.day new.day (text left c.args.lines.now) (text left c.lines.lines)
     (text left new.lines) (has_ended c.lines.lines) (left new.lines.source.now)
     (taken c.args.sink.now) (taken c.lines.sink) (taken new.sink) c.lines.invariant.so_far did.next
 
@@ -21,7 +19,7 @@ returns-in-Err-clause-ran g c =
     let taken = g.K.Sink.taken in
     let did = c.in-Err.ensures in
     let new = c.write_next.new in
-    ran-fault (right_by (FnReturnsAt g.F.Fn c.args.plan.now)) c.args.day.now c.lines.day new.day c.in-Err.fault (text left c.args.lines.now)
+    ran-fault (g.P.Planner.right c.args.planner.now) c.args.day.now c.lines.day new.day c.in-Err.fault (text left c.args.lines.now)
     (text left c.lines.lines) (text left new.lines) (has_ended c.lines.lines) (has_ended new.lines) (left new.lines.source.now)
     (taken c.args.sink.now) (taken c.lines.sink) (taken new.sink) c.lines.invariant.so_far did.stays_ended did.not_ended did.next
 
@@ -37,7 +35,7 @@ lines-preserved g c =
       unfailed = did.unfailed;
       numbered = did.number refl;
       lost_none = did.none_lost;
-      so_far = line-so-far (right_by (FnReturnsAt g.F.Fn c.args.plan.now)) c.args.day.now c.lines.day new.day did.next.0 (text left c.args.lines.now)
+      so_far = line-so-far (g.P.Planner.right c.args.planner.now) c.args.day.now c.lines.day new.day did.next.0 (text left c.args.lines.now)
           (text left c.lines.lines) (text left new.lines) (has_ended c.lines.lines) (has_ended new.lines)
           (taken c.args.sink.now) (taken c.lines.sink) (taken new.sink) before.so_far did.next.1 did.stays_ended (did.line_feed refl) did.next.2;
       counted_lines = omega (arith, did.line refl, before.counted_lines);

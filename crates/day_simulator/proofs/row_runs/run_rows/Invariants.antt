@@ -1,5 +1,3 @@
-use Rattle.std.specs.Fn.{FnReturnsAt}
-use Rattle.day_simulator.specs.Rows.{right_by}
 use Rattle.std.proofs.Common.{◌≡◌, ◌+◌, ◌≤◌, None}
 use Rattle.std.specs.Prelude.{IsTrue}
 use Rattle.search_model.specs.Days.{loses_none}
@@ -15,7 +13,7 @@ invariant-lines g l = record {
   unfailed : failure l.lines ≡ None;
   numbered : row_number l.day ≤ line l.lines + 1;
   lost_none : IsTrue (loses_none l.day);
-  so_far : SoFar (right_by (FnReturnsAt g.F.Fn l.fn.plan)) l.initial.day l.day (text g.S.Source.left l.initial.lines) (text g.S.Source.left l.lines)
+  so_far : SoFar (g.P.Planner.right l.fn.planner) l.initial.day l.day (text g.S.Source.left l.initial.lines) (text g.S.Source.left l.lines)
       (has_ended l.lines) (g.K.Sink.taken l.initial.sink) (g.K.Sink.taken l.sink);
   counted_lines : line l.lines ≡ line l.initial.lines + l.counter;
   counted : g.S.Source.faults l.initial.lines.source.now ≤ g.S.Source.faults l.lines.source.now;

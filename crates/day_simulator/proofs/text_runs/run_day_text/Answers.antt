@@ -1,5 +1,3 @@
-use Rattle.std.specs.Fn.{FnReturnsAt}
-use Rattle.day_simulator.specs.Rows.{right_by}
 use Rattle.std.proofs.Common.{Err, ap, refl}
 use Rattle.lift_text.specs.LineReader.{text}
 use Rattle.day_simulator.proofs.TextRunLemmas.{opening-taken, rows-end, small-report}
@@ -29,7 +27,7 @@ pub returns-in-Err-run_day-clause-ends : goal.returns-in-Err-run_day-clause-ends
 returns-in-Err-run_day-clause-ends g c =
     let left = g.S.Source.left in
     let taken = g.K.Sink.taken in
-    rows-end (right_by (FnReturnsAt g.F.Fn c.args.plan.now)) c.in-Ok.opening c.in-Err-run_day.fault (text left c.args.lines.now)
+    rows-end (g.P.Planner.right c.args.planner.now) c.in-Ok.opening c.in-Err-run_day.fault (text left c.args.lines.now)
     (text left c.read_day_opening.new.lines) (left c.run_day.new.lines.source.now) (taken c.args.sink.now)
     (taken c.run_day.new.sink) c.in-Ok.ensures.takes c.in-Err-run_day.ensures.ran
 

@@ -1,5 +1,3 @@
-use Rattle.std.specs.Fn.{FnReturnsAt}
-use Rattle.day_simulator.specs.Rows.{right_by}
 use Rattle.std.proofs.Common.{Some, sym, ap, ◌∙◌}
 use Rattle.elevator_model.specs.Building.{Building}
 use Rattle.elevator_model.specs.Snapshot.{Snapshot}
@@ -21,7 +19,7 @@ good_row-requires-clause-good g c =
 pub returns-in-Some-clause-row : goal.returns-in-Some-clause-row
 returns-in-Some-clause-row g c =
     let said = ap (option_map row_as_said) (sym c.in-Some.is) ∙ c.in_ok-row.ensures in
-    answer-said (right_by (FnReturnsAt g.F.Fn c.args.plan.now)) c.args.self.now (Some (row_as_said c.in-Some.row))
+    answer-said (g.P.Planner.right c.args.planner.now) c.args.self.now (Some (row_as_said c.in-Some.row))
     (row_of_line c.args.bytes.now) c.good_row.new.self c.args.out.now.items c.good_row.new.out.items c.good_row.result
     (sym (good-row c.building.result.now (row_of_line c.args.bytes.now) (row_as_said c.in-Some.row) said).0) c.good_row.ensures.row
 
@@ -30,6 +28,6 @@ returns-in-None-clause-row g c =
     let here = c.building.ensures.value ∙ ap (λ (s : Snapshot). s.building) (c.snapshot.ensures.value ∙ ap (λ (d : Day). d.world.snapshot) c.self.view_is) in
     let said = sym (ap (λ (b : Building). row_within b (row_of_line c.args.bytes.now)) here) ∙ sym c.in_ok-row.ensures
     ∙ ap (option_map row_as_said) c.in-None.is in
-    refused-answer (right_by (FnReturnsAt g.F.Fn c.args.plan.now)) c.args.self.now
+    refused-answer (g.P.Planner.right c.args.planner.now) c.args.self.now
     (row_of_line c.args.bytes.now) NoRow c.refuse.new.self c.args.out.now.items c.refuse.new.out.items c.refuse.result
     (no-row c.args.self.now.world (row_number c.args.self.now) (row_of_line c.args.bytes.now) said) c.refuse.ensures.refused

@@ -1,5 +1,3 @@
-use Rattle.std.specs.Fn.{FnReturnsAt}
-use Rattle.day_simulator.specs.Rows.{right_by}
 use Rattle.std.proofs.Common.{Some}
 use Rattle.day_text.specs.Records.{row_as_said}
 use Rattle.day_simulator.proofs.RowLemmas.{refused-answer}
@@ -7,6 +5,6 @@ use Rattle.day_simulator.proofs.days.Day.good_row.Goals as goal
 
 pub returns-clause-row : goal.returns-clause-row
 returns-clause-row g c =
-    refused-answer (right_by (FnReturnsAt g.F.Fn c.args.plan.now)) c.args.self.now
+    refused-answer (g.P.Planner.right c.args.planner.now) c.args.self.now
     (Some (row_as_said c.args.row.now)) c.in-Err.fault c.refuse.new.self c.args.out.now.items c.refuse.new.out.items c.refuse.result
     (rw c.in-Err.is at c.in_ok-world.ensures) c.refuse.ensures.refused
