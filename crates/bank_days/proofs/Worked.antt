@@ -59,9 +59,9 @@ with_one_refused : (right : Right) (bank : Bank) (log : BankLog) → bank.openin
     → (log.text.items ≡ codes "day 1\nrow 1 refused 41\ntotal 0 1 0\nend\n# solved\n") × (log.is_stopped ≡ false)
 with_one_refused right bank log opens one is =
     let done = subst (λ (rows : List BankRow). AreRowsDone right (opening_day bank.opening) (rows_said rows) is.day is.text) one is.done in
-    let refused = done.4.2 in
-    let day : is.day ≡ day_after_refused (opening_day opening) = done.5.0 ∙ refused.day ∙ ap (λ (s : Snapshot). day_after_refused (opening_day s)) opens in
-    let text : is.text ≡ refused_text 1 NoRow = done.6 ∙ ap (λ (t : List ℕ). done.1 ++ t) done.5.1 ∙ append-nil done.1 ∙ refused.text in (
+    let refused = done.3.2 in
+    let day : is.day ≡ day_after_refused (opening_day opening) = done.4.0 ∙ refused.day ∙ ap (λ (s : Snapshot). day_after_refused (opening_day s)) opens in
+    let text : is.text ≡ refused_text 1 NoRow = done.5 ∙ ap (λ (t : List ℕ). done.1 ++ t) done.4.1 ∙ append-nil done.1 ∙ refused.text in (
       is.log_is ∙ ap (λ (t : List ℕ). day_log t is.day) text ∙ ap (day_log (refused_text 1 NoRow)) day ∙ one_refused_log,
       is.stopped_is
           ∙ ap (λ (d : Day). ltb 0 d.unsolved) day,

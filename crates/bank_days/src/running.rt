@@ -15,7 +15,7 @@ use crate::logs::BankLog;
 use bank_text::{Bank, BankRow};
 use byte_streams::Gate;
 use call_state::Snapshot;
-use day_simulator::{Day, FIRST_LINE, Planner, RowAnswer};
+use day_simulator::{Day, FIRST_LINE, Planner};
 use std::alloc::{AllocError, Global};
 use std::marker::Sync;
 use work_fan::{Jobs, MOST_WORKERS, Runtime};
@@ -31,10 +31,10 @@ fn run_row<P: Planner>(
     row: &BankRow,
     day: &mut Day,
     log: &mut Vec<u8>,
-) -> Result<RowAnswer, AllocError>
+) -> Result<(), AllocError>
     requires sound { PlannerLaw (P.right planner.now) }
     requires number { row_number day.old < 2 ^ 32 }
-    ensures done { IfOk result (IsRowDone (P.right planner.now) day.old (row_said row.now)
+    ensures done { OnOk result (IsRowDone (P.right planner.now) day.old (row_said row.now)
         day.new log.old.items log.new.items) }
     ensures none_lost { IsTrue (loses_none day.new) }
     ensures number { OnOk result (row_number day.new ≡ row_number day.old + 1) }

@@ -4,14 +4,14 @@ use Rattle.std.proofs.Common.{arith, Option, Some, None, Ok}
 use Rattle.std.proofs.lemmas.Bool.{ltb-true, cases_lt}
 use Rattle.elevator_model.specs.Snapshot.{Snapshot}
 use Rattle.elevator_model.specs.declared.Stop.{Stop}
+use Rattle.search_model.specs.declared.Event.{Event}
 use Rattle.search_model.specs.declared.RowFault.{RowFault}
 use Rattle.search_model.specs.declared.Stated.{Stated}
-use Rattle.search_model.specs.Advancing.{World}
+use Rattle.search_model.specs.Advancing.{World, events_by}
 use Rattle.search_model.specs.Days.{Day, Row, IsRightLog, fault_of_row, opening_day, step_by}
+use Rattle.search_model.specs.Days.RowLog.{Accepted}
 use Rattle.lift_text.specs.Reading.{TextState}
-use Rattle.day_simulator.specs.declared.days.RowAnswer.{RowAnswer}
-use Rattle.day_simulator.specs.declared.days.RowAnswer.TheVariants.{Taken}
-use Rattle.day_simulator.specs.Rows.{IsRowDone, answer_of, held_plan}
+use Rattle.day_simulator.specs.Rows.{DoesRow, IsRowDone, held_plan, next_step}
 use Rattle.day_laws.specs.Standing.{row_number}
 use Rattle.day_laws.specs.RowLines.{rows_of}
 use Rattle.day_simulator.specs.RowRuns.{Right, AreRowsDone}
@@ -32,10 +32,12 @@ less-self n h = absurd (omega (arith, h))
 -- a step that counts one more unsolved row accepts it, with a bound below its cost
 step-counted : (right : Snapshot → Stated → Type 0) (w : World) (old : Day) (n : ℕ) (said : Option Row) (printed : Stated) (fault : Option RowFault)
     → old.unsolved < (step_by old n said printed fault).day.unsolved → IsRightLog right w (step_by old n said printed fault).log
-    → (answer_of (step_by old n said printed fault).log ≡ Taken printed.cost printed.bound) × (printed.bound < printed.cost) × right w.snapshot printed
+    → (events : List Event) × ((step_by old n said printed fault).log ≡ Accepted n events printed) × (printed.bound < printed.cost)
+    × right w.snapshot printed
 step-counted right w old n said printed (Some fault) more is = absurd (less-self old.unsolved more)
 step-counted right w old n None printed None more is = absurd (less-self old.unsolved more)
-step-counted right w old n (Some row) printed None more is = (refl, below (ltb printed.bound printed.cost) refl more, is)
+step-counted right w old n (Some row) printed None more is =
+    (events_by old.world row.time, refl, below (ltb printed.bound printed.cost) refl more, is)
   where
     below : (b : Bool) → ltb printed.bound printed.cost ≡ b → old.unsolved < old.unsolved + cond {A = ℕ} b 1 0 → printed.bound < printed.cost
     below true e h = ltb-true printed.bound printed.cost e
@@ -45,13 +47,15 @@ step-counted right w old n (Some row) printed None more is = (refl, below (ltb p
 record IsCounted (right : Right) (old : Day) (said : Option Row) (new : Day) (text : List ℕ) : Type 0 where
   printed : Stated
   proof : List ℕ
-  accepted : IsRowDone right old said new [] text (Taken printed.cost printed.bound)
+  events : List Event
+  row_done : DoesRow right old said new [] text printed proof
+  accepted : (next_step old said printed).log ≡ Accepted (row_number old) events printed
   unsolved : printed.bound < printed.cost
   is_right : right new.world.snapshot (held_plan old said) printed proof
 
-row-counted : (right : Right) (old : Day) (said : Option Row) (new : Day) (text : List ℕ) (answer : RowAnswer) → IsRowDone right old said new [] text answer
+row-counted : (right : Right) (old : Day) (said : Option Row) (new : Day) (text : List ℕ) → IsRowDone right old said new [] text
     → old.unsolved < new.unsolved → IsCounted right old said new text
-row-counted right old said new text answer done more =
+row-counted right old said new text done more =
     let printed = done.0 in
     let proof = done.1 in
     let does = done.2 in
@@ -60,9 +64,11 @@ row-counted right old said new text answer done more =
     record {
       printed = printed;
       proof = proof;
-      accepted = subst (λ (a : RowAnswer). IsRowDone right old said new [] text a) (does.answer_is ∙ counted.0) done;
-      unsolved = counted.1;
-      is_right = counted.2;
+      events = counted.0;
+      row_done = does;
+      accepted = counted.1;
+      unsolved = counted.2;
+      is_right = counted.3;
     }
 
 -- ---- the rows
@@ -85,9 +91,12 @@ module _ (right : Right) (AreEnough : Snapshot → Type 0)
     text_is = is;
     before = old;
     after = between;
-    cost = counted.printed.cost;
-    bound = counted.printed.bound;
+    number = row_number old;
+    events = counted.events;
+    printed = counted.printed;
+    proof = counted.proof;
     earlier_done = (refl, refl);
+    row_done = counted.row_done;
     accepted = counted.accepted;
     later_done = later;
     unsolved = counted.unsolved;
@@ -96,11 +105,11 @@ module _ (right : Right) (AreEnough : Snapshot → Type 0)
   }
 
   -- it is a later one
-  stopped-later : (old : Day) (said : Option Row) (between : Day) (first : List ℕ) (answer : RowAnswer) (rows : List (Option Row)) (new : Day)
+  stopped-later : (old : Day) (said : Option Row) (between : Day) (first : List ℕ) (rows : List (Option Row)) (new : Day)
       (rest text : List ℕ)
-      → IsRowDone right old said between [] first answer → IsStoppedIn right AreEnough between rows new rest → text ≡ first ++ rest
+      → IsRowDone right old said between [] first → IsStoppedIn right AreEnough between rows new rest → text ≡ first ++ rest
       → IsStoppedIn right AreEnough old (said ∷ rows) new text
-  stopped-later old said between first answer rows new rest text done found is = record {
+  stopped-later old said between first rows new rest text done found is = record {
     earlier = said ∷ found.earlier;
     row = found.row;
     later = found.later;
@@ -111,9 +120,12 @@ module _ (right : Right) (AreEnough : Snapshot → Type 0)
     text_is = is ∙ ap (λ (xs : List ℕ). first ++ xs) found.text_is ∙ sym (append_assoc first found.lines_before (found.lines ++ found.lines_after));
     before = found.before;
     after = found.after;
-    cost = found.cost;
-    bound = found.bound;
-    earlier_done = (between, first, found.lines_before, answer, done, found.earlier_done, refl);
+    number = found.number;
+    events = found.events;
+    printed = found.printed;
+    proof = found.proof;
+    earlier_done = (between, first, found.lines_before, done, found.earlier_done, refl);
+    row_done = found.row_done;
     accepted = found.accepted;
     later_done = found.later_done;
     unsolved = found.unsolved;
@@ -125,9 +137,9 @@ module _ (right : Right) (AreEnough : Snapshot → Type 0)
   stopped-in old [] new text done more = absurd (less-self old.unsolved (subst (λ (d : Day). old.unsolved < d.unsolved) done.0 more))
   stopped-in old (said ∷ rows) new text done more =
       elim (cases_lt old.unsolved done.0.unsolved) [
-        | inl here ↦ stopped-here old said done.0 done.1 rows new done.2 text (row-counted right old said done.0 done.1 done.3 done.4 here) done.5 done.6
-        | inr none ↦ stopped-later old said done.0 done.1 done.3 rows new done.2 text done.4
-            (stopped-in done.0 rows new done.2 done.5 (omega (arith, none, more))) done.6
+        | inl here ↦ stopped-here old said done.0 done.1 rows new done.2 text (row-counted right old said done.0 done.1 done.3 here) done.4 done.5
+        | inr none ↦ stopped-later old said done.0 done.1 rows new done.2 text done.3
+            (stopped-in done.0 rows new done.2 done.4 (omega (arith, none, more))) done.5
       ]
 
 -- ---- the day

@@ -19,7 +19,6 @@ use Rattle.day_text.proofs.OpeningLemmas.{limit_of_rows}
 use Rattle.day_text.proofs.PieceLemmas.{joined_again}
 use Rattle.day_state.specs.Openings.{IsOpeningSnapshot}
 use Rattle.day_state.proofs.OpeningLaws.{opening-feasible}
-use Rattle.day_simulator.specs.declared.days.RowAnswer.{RowAnswer}
 use Rattle.day_simulator.specs.Rows.{IsRowDone, held_plan, next_step}
 use Rattle.day_laws.specs.Standing.{IsStanding, row_number}
 use Rattle.day_laws.proofs.NoneLost.{accepted-stands, opening-stands, refused-stands}
@@ -110,9 +109,9 @@ module _ (right : Right)
       let good = law (day_after_accepted old (row_number old) row printed).world.snapshot (held_plan old (Some row)) printed proof is_right in
       accepted-stands old row printed is room good.0 good.1
 
-  row-stands : (old : Day) (said : Option Row) (new : Day) (text : List ℕ) (answer : RowAnswer) → IsStanding old → row_number old < 2 ^ 32
-      → IsRowDone right old said new [] text answer → IsStanding new
-  row-stands old said new text answer is room done =
+  row-stands : (old : Day) (said : Option Row) (new : Day) (text : List ℕ) → IsStanding old → row_number old < 2 ^ 32
+      → IsRowDone right old said new [] text → IsStanding new
+  row-stands old said new text is room done =
       let printed = done.0 in
       let proof = done.1 in
       let does = done.2 in
@@ -124,9 +123,9 @@ module _ (right : Right)
       → AreRowsDone right old rows new text → AreRowsKept right old rows new text
   kept-rows old [] new text is room done = done
   kept-rows old (said ∷ rows) new text is room done =
-      let here = row-stands old said done.0 done.1 done.3 is (omega (arith, room)) done.4 in
-      let number = done-numbered right old said done.0 [] done.1 (Ok done.3) done.4 in
-      (done.0, done.1, done.2, done.3, done.4, here.none_lost, kept-rows done.0 rows new done.2 here (omega (arith, room, number)) done.5, done.6)
+      let here = row-stands old said done.0 done.1 is (omega (arith, room)) done.3 in
+      let number = done-numbered right old said done.0 [] done.1 (Ok tt) done.3 in
+      (done.0, done.1, done.2, done.3, here.none_lost, kept-rows done.0 rows new done.2 here (omega (arith, room, number)) done.4, done.5)
 
 -- ---- the day
 

@@ -1,10 +1,11 @@
 -- What is told of the rows of a day one by one: which of them was stopped by a limit, and that no call is lost after any.
 use Rattle.std.specs.Prelude.{◌≡◌, ℕ, ◌<◌, List, [], ◌∷◌, ◌++◌, Option, IsTrue}
 use Rattle.elevator_model.specs.Snapshot.{Snapshot}
+use Rattle.search_model.specs.declared.Event.{Event}
+use Rattle.search_model.specs.declared.Stated.{Stated}
 use Rattle.search_model.specs.Days.{Day, Row, loses_none}
-use Rattle.day_simulator.specs.declared.days.RowAnswer.{RowAnswer}
-use Rattle.day_simulator.specs.declared.days.RowAnswer.TheVariants.{Taken}
-use Rattle.day_simulator.specs.Rows.{IsRowDone}
+use Rattle.search_model.specs.Days.RowLog.{Accepted}
+use Rattle.day_simulator.specs.Rows.{DoesRow, IsRowDone, next_step}
 use Rattle.day_simulator.specs.RowRuns.{Right, AreRowsDone}
 
 -- Rows were done that led from one day to another and wrote this text, and one of them was accepted with a bound below its
@@ -23,12 +24,16 @@ pub record IsStoppedIn (right : Right) (AreEnough : Snapshot → Type 0) (first 
   -- the day before the row and the day after it
   pub before : Day
   pub after : Day
-  pub cost : ℕ
-  pub bound : ℕ
+  -- what was printed for it
+  pub number : ℕ
+  pub events : List Event
+  pub printed : Stated
+  pub proof : List ℕ
   pub earlier_done : AreRowsDone right first earlier before lines_before
-  pub accepted : IsRowDone right before row after [] lines (Taken cost bound)
+  pub row_done : DoesRow right before row after [] lines printed proof
+  pub accepted : (next_step before row printed).log ≡ Accepted number events printed
   pub later_done : AreRowsDone right after later last lines_after
-  pub unsolved : bound < cost
+  pub unsolved : printed.bound < printed.cost
   pub not_enough : AreEnough after.world.snapshot → ⊥
 
 -- The rows were done one after another, and after each of them every call that was accepted is open, aboard a car or
@@ -36,5 +41,5 @@ pub record IsStoppedIn (right : Right) (AreEnough : Snapshot → Type 0) (first 
 abbrev pub AreRowsKept : Right → Day → List (Option Row) → Day → (text : List ℕ) → Type 0
 AreRowsKept right old [] new text = (new ≡ old) × (text ≡ [])
 AreRowsKept right old (said ∷ rows) new text =
-    (between : Day) × (first : List ℕ) × (rest : List ℕ) × (answer : RowAnswer) × IsRowDone right old said between [] first answer × IsTrue (loses_none between)
+    (between : Day) × (first : List ℕ) × (rest : List ℕ) × IsRowDone right old said between [] first × IsTrue (loses_none between)
     × AreRowsKept right between rows new rest × (text ≡ first ++ rest)

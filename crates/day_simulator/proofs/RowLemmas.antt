@@ -1,5 +1,5 @@
 -- What a row does: refused for a fault, or accepted.
-use Rattle.std.specs.Prelude.{nat_lt, if◌then◌else◌, ◌^◌, Result, Ok, Err, IfOk, OnOk}
+use Rattle.std.specs.Prelude.{nat_lt, if◌then◌else◌, ◌^◌, Result, Ok, Err, OnOk}
 use Rattle.std.specs.declared.alloc.AllocError.{AllocError}
 use Rattle.std.proofs.Common.{◌≡◌, ℕ, ◌+◌, ◌<◌, List, [], ◌∷◌, ◌++◌, refl, sym, ap, ◌∙◌, subst, Option, Some, None}
 use Rattle.search_model.specs.declared.RowFault.{RowFault}
@@ -13,11 +13,9 @@ use Rattle.search_model.specs.declared.Event.{Event}
 use Rattle.search_model.specs.Days.{DayCall, calls_after, with_call}
 use Rattle.search_model.specs.Days.{Day, Row, Step, IsRightLog, call_of_row, fault_of_row, step_by, day_after_accepted, day_after_refused}
 use Rattle.search_model.specs.Days.RowLog.{Refused, Accepted}
-use Rattle.day_simulator.specs.declared.days.RowAnswer.{RowAnswer}
-use Rattle.day_simulator.specs.declared.days.RowAnswer.TheVariants.{Taken}
 use Rattle.day_laws.specs.Standing.{IsStanding, row_number}
 use Rattle.day_text.specs.LogTexts.{row_text, accepted_text}
-use Rattle.day_simulator.specs.Rows.{next_step, answer_of, held_plan, DoesRow, IsRowDone, IsRefused}
+use Rattle.day_simulator.specs.Rows.{next_step, held_plan, DoesRow, IsRowDone, IsRefused}
 use Rattle.day_simulator.specs.RowRuns.{Right}
 use Rattle.day_laws.proofs.NoneLost.{accepted-stands}
 use Rattle.day_laws.proofs.RowFaults.{refused-number, step-number}
@@ -35,39 +33,37 @@ step-accepted : (old : Day) (row : Row) (printed : Stated) → fault_of_row old.
 step-accepted old row printed is = ap (step_by old (row_number old) (Some row) printed) is
 
 -- what is known of a row, over its step
-does : (right : Right) (old : Day) (said : Option Row) (new : Day) (before after : List ℕ) (answer : RowAnswer)
-    (printed : Stated) (proof : List ℕ) (step : Step) → next_step old said printed ≡ step → new ≡ step.day
+does : (right : Right) (old : Day) (said : Option Row) (new : Day) (before after : List ℕ) (printed : Stated) (proof : List ℕ) (step : Step) → next_step old said printed ≡ step → new ≡ step.day
     → after ≡ before ++ row_text new.world.snapshot step.log proof → IsRightLog (λ s stated. right s (held_plan old said) stated proof) new.world step.log
-    → answer ≡ answer_of step.log → DoesRow right old said new before after answer printed proof
-does right old said new before after answer printed proof step is day text right_plan answered =
+    → DoesRow right old said new before after printed proof
+does right old said new before after printed proof step is day text right_plan =
     let P : Step → Type 0 = λ x. (new ≡ x.day) × (after ≡ before ++ row_text new.world.snapshot x.log proof)
-    × IsRightLog (λ s stated. right s (held_plan old said) stated proof) new.world x.log × (answer ≡ answer_of x.log) in
-    let all = subst P (sym is) (day, text, right_plan, answered) in
-    record { day = all.0; text = all.1; right_plan = all.2; answer_is = all.3 }
+    × IsRightLog (λ s stated. right s (held_plan old said) stated proof) new.world x.log in
+    let all = subst P (sym is) (day, text, right_plan) in
+    record { day = all.0; text = all.1; right_plan = all.2 }
 
 abbrev no_plan : Stated
 no_plan = record { plan = []; cost = 0; bound = 0 }
 
 pub refused-row : (right : Right) (old : Day) (said : Option Row) (fault : RowFault) (new : Day) (before after : List ℕ)
-    (answer : RowAnswer) → fault_of_row old.world (row_number old) said ≡ Some fault → IsRefused old fault new before after answer
-    → IsRowDone right old said new before after answer
-refused-row right old said fault new before after answer is refused = (
+    → fault_of_row old.world (row_number old) said ≡ Some fault → IsRefused old fault new before after → IsRowDone right old said new before after
+refused-row right old said fault new before after is refused = (
   no_plan,
   [],
-  does right old said new before after answer no_plan [] (record { day = day_after_refused old; log = Refused (row_number old) fault })
-      (step-refused old said no_plan fault is) refused.day refused.text tt refused.answer_is,
+  does right old said new before after no_plan [] (record { day = day_after_refused old; log = Refused (row_number old) fault })
+      (step-refused old said no_plan fault is) refused.day refused.text tt,
 )
 
-pub accepted-row : (right : Right) (old : Day) (row : Row) (new : Day) (before after : List ℕ) (answer : RowAnswer)
+pub accepted-row : (right : Right) (old : Day) (row : Row) (new : Day) (before after : List ℕ)
     (printed : Stated) (proof : List ℕ) → fault_of_row old.world (row_number old) (Some row) ≡ None → new ≡ day_after_accepted old (row_number old) row printed
     → after ≡ before ++ accepted_text new.world.snapshot (row_number old) (events_by old.world row.time) printed proof
-    → right new.world.snapshot (advanced old.world row.time).plan printed proof → answer ≡ Taken printed.cost printed.bound → IsRowDone right old (Some row) new before after answer
-accepted-row right old row new before after answer printed proof is day text right_plan answered = (
+    → right new.world.snapshot (advanced old.world row.time).plan printed proof → IsRowDone right old (Some row) new before after
+accepted-row right old row new before after printed proof is day text right_plan = (
   printed,
   proof,
-  does right old (Some row) new before after answer printed proof
+  does right old (Some row) new before after printed proof
       (record { day = day_after_accepted old (row_number old) row printed; log = Accepted (row_number old) (events_by old.world row.time) printed })
-      (step-accepted old row printed is) day text right_plan answered,
+      (step-accepted old row printed is) day text right_plan,
 )
 
 -- ---- taking a call
@@ -126,11 +122,11 @@ pub taken-row : (right : Right) (old : Day) (row : Row) (new : Day) (before afte
     → s ≡ (with_call (advanced old.world row.time) (call_of_row (row_number old) row) []).snapshot → held ≡ (advanced old.world row.time).plan
     → n ≡ row_number old → events ≡ events_by old.world row.time
     → text ≡ accepted_text s n events printed proof → after ≡ before ++ text → right s held printed proof
-    → IsRowDone right old (Some row) new before after (Taken printed.cost printed.bound)
+    → IsRowDone right old (Some row) new before after
 taken-row right old row new before after text s held n events plan printed proof none is planned stands left numbered happened says wrote right_plan =
-    accepted-row right old row new before after (Taken printed.cost printed.bound) printed proof none day lines
+    accepted-row right old row new before after printed proof none day lines
     (subst (λ (x : Snapshot). right x (advanced old.world row.time).plan printed proof) there
-    (subst (λ (x : List (List Stop)). right s x printed proof) left right_plan)) refl
+    (subst (λ (x : List (List Stop)). right s x printed proof) left right_plan))
   where
     day : new ≡ day_after_accepted old (row_number old) row printed
     day = is ∙ ap (λ (p : List (List Stop)). day_after_accepted old (row_number old) row (record { plan = p; cost = printed.cost; bound = printed.bound }))
@@ -149,25 +145,25 @@ taken-row right old row new before after text s held n events plan printed proof
 -- ---- what is answered
 
 pub refused-answer : (right : Right) (old : Day) (said : Option Row) (fault : RowFault) (new : Day) (before after : List ℕ)
-    (r : Result RowAnswer AllocError) → fault_of_row old.world (row_number old) said ≡ Some fault → IfOk r (IsRefused old fault new before after)
-    → IfOk r (IsRowDone right old said new before after)
-refused-answer right old said fault new before after (Ok answer) is refused = refused-row right old said fault new before after answer is refused
+    (r : Result Unit AllocError) → fault_of_row old.world (row_number old) said ≡ Some fault → OnOk r (IsRefused old fault new before after)
+    → OnOk r (IsRowDone right old said new before after)
+refused-answer right old said fault new before after (Ok unit) is refused = refused-row right old said fault new before after is refused
 refused-answer right old said fault new before after (Err error) is refused = tt
 
 -- the same of another wording of the row
 pub answer-said : (right : Right) (old : Day) (said other : Option Row) (new : Day) (before after : List ℕ)
-    (r : Result RowAnswer AllocError) → said ≡ other → IfOk r (IsRowDone right old said new before after) → IfOk r (IsRowDone right old other new before after)
-answer-said right old said other new before after r same done = subst (λ (x : Option Row). IfOk r (IsRowDone right old x new before after)) same done
+    (r : Result Unit AllocError) → said ≡ other → OnOk r (IsRowDone right old said new before after) → OnOk r (IsRowDone right old other new before after)
+answer-said right old said other new before after r same done = subst (λ (x : Option Row). OnOk r (IsRowDone right old x new before after)) same done
 
 -- ---- the number of rows
 
-pub refused-numbered : (old : Day) (fault : RowFault) (new : Day) (before after : List ℕ) (r : Result RowAnswer AllocError)
-    → IfOk r (IsRefused old fault new before after) → OnOk r (row_number new ≡ row_number old + 1)
-refused-numbered old fault new before after (Ok answer) refused = ap row_number refused.day ∙ refused-number old
+pub refused-numbered : (old : Day) (fault : RowFault) (new : Day) (before after : List ℕ) (r : Result Unit AllocError)
+    → OnOk r (IsRefused old fault new before after) → OnOk r (row_number new ≡ row_number old + 1)
+refused-numbered old fault new before after (Ok unit) refused = ap row_number refused.day ∙ refused-number old
 refused-numbered old fault new before after (Err error) refused = tt
 
 pub done-numbered : (right : Right) (old : Day) (said : Option Row) (new : Day) (before after : List ℕ)
-    (r : Result RowAnswer AllocError) → IfOk r (IsRowDone right old said new before after) → OnOk r (row_number new ≡ row_number old + 1)
-done-numbered right old said new before after (Ok answer) done = ap row_number done.2.day
+    (r : Result Unit AllocError) → OnOk r (IsRowDone right old said new before after) → OnOk r (row_number new ≡ row_number old + 1)
+done-numbered right old said new before after (Ok unit) done = ap row_number done.2.day
     ∙ step-number old (row_number old) said done.0 (fault_of_row old.world (row_number old) said)
 done-numbered right old said new before after (Err error) done = tt

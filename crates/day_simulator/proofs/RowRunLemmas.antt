@@ -8,8 +8,6 @@ use Rattle.search_model.specs.declared.Stated.{Stated}
 use Rattle.lift_text.specs.Lines.{line_of}
 use Rattle.lift_text.specs.Reading.{line_limit}
 use Rattle.day_text.specs.Records.{row_of_line}
-use Rattle.day_simulator.specs.declared.days.RowAnswer.{RowAnswer}
-use Rattle.day_simulator.specs.declared.days.RowAnswer.TheVariants.{Refused as RefusedBy}
 use Rattle.day_laws.specs.Standing.{row_number}
 use Rattle.day_text.specs.LogTexts.{refused_text}
 use Rattle.day_simulator.specs.Rows.{IsRowDone}
@@ -25,9 +23,9 @@ append-assoc [] ys zs = refl
 append-assoc (x ∷ xs) ys zs = ap (λ r. x ∷ r) (append-assoc xs ys zs)
 
 -- one row
-pub one-row : (right : Right) (old : Day) (said : Option Row) (new : Day) (text : List ℕ) (answer : RowAnswer) → IsRowDone right old said new [] text answer
+pub one-row : (right : Right) (old : Day) (said : Option Row) (new : Day) (text : List ℕ) → IsRowDone right old said new [] text
     → AreRowsDone right old (said ∷ []) new text
-one-row right old said new text answer done = (new, text, [], answer, done, (refl, refl), sym (append-nil text))
+one-row right old said new text done = (new, text, [], done, (refl, refl), sym (append-nil text))
 
 -- and later ones
 pub rows-more : (right : Right) (a b c : Day) (xs ys : List (Option Row)) (t u : List ℕ) → AreRowsDone right a xs b t → AreRowsDone right b ys c u
@@ -39,9 +37,8 @@ rows-more right a b c (x ∷ xs) ys t u first later = (
   first.1,
   first.2 ++ u,
   first.3,
-  first.4,
-  rows-more right first.0 b c xs ys first.2 u first.5 later,
-  ap (λ (v : List ℕ). v ++ u) first.6
+  rows-more right first.0 b c xs ys first.2 u first.4 later,
+  ap (λ (v : List ℕ). v ++ u) first.5
       ∙ append-assoc first.1 first.2 u,
 )
 
@@ -72,10 +69,10 @@ pub some-bytes : (line : List ℕ) (none_yet : Bool) → none_yet ≡ eqb (lengt
 some-bytes line none_yet is some none = true≢false (sym (is ∙ ap (λ (l : List ℕ). eqb (length l) 0) none) ∙ some)
 
 -- what a row of some bytes did
-pub short-row-done : (right : Right) (old new : Day) (line text : List ℕ) (answer : RowAnswer) → (line ≡ [] → ⊥)
-    → IsRowDone right old (row_of_line line) new [] text answer → AreRowsDone right old (rows_of_short line) new text
-short-row-done right old new [] text answer full done = absurd (full refl)
-short-row-done right old new (b ∷ line) text answer full done = one-row right old (row_of_line (b ∷ line)) new text answer done
+pub short-row-done : (right : Right) (old new : Day) (line text : List ℕ) → (line ≡ [] → ⊥)
+    → IsRowDone right old (row_of_line line) new [] text → AreRowsDone right old (rows_of_short line) new text
+short-row-done right old new [] text full done = absurd (full refl)
+short-row-done right old new (b ∷ line) text full done = one-row right old (row_of_line (b ∷ line)) new text done
 
 pub long-rows : (line : List ℕ) → line_limit < length line → rows_of_line line ≡ None ∷ []
 long-rows line long = ap (λ (b : Bool). cond {A = List (Option Row)} b (None ∷ []) (rows_of_short line)) (lt-ltb line_limit (length line) long)
@@ -89,4 +86,4 @@ no_plan = record { plan = []; cost = 0; bound = 0 }
 pub long-row-done : (right : Right) (old new : Day) (text : List ℕ) → new ≡ day_after_refused old → text ≡ refused_text (row_number old) NoRow
     → AreRowsDone right old (None ∷ []) new text
 long-row-done right old new text day log =
-    one-row right old None new text (RefusedBy 41) (no_plan, [], record { day = day; text = log; right_plan = tt; answer_is = refl })
+    one-row right old None new text (no_plan, [], record { day = day; text = log; right_plan = tt })

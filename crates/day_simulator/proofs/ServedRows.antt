@@ -6,7 +6,6 @@ use Rattle.search_model.specs.Advancing.{last_events}
 use Rattle.search_model.specs.Days.{Day, Row, IsRightLog, fault_of_row, opening_day}
 use Rattle.day_state.specs.Openings.{IsOpeningSnapshot}
 use Rattle.day_state.proofs.OpeningLaws.{opening-feasible}
-use Rattle.day_simulator.specs.declared.days.RowAnswer.{RowAnswer}
 use Rattle.day_simulator.specs.Planning.{PlannerLaw}
 use Rattle.day_simulator.specs.Rows.{IsRowDone, held_plan, next_step}
 use Rattle.day_laws.specs.Standing.{row_number}
@@ -17,9 +16,9 @@ use Rattle.day_laws.specs.Once.{events_of_log}
 use Rattle.day_simulator.specs.Served.{AreServedOnce, events_of_rows}
 
 module _ (right : Right) (law : PlannerLaw right) where
-  row-serves : (old : Day) (said : Option Row) (new : Day) (text : List ℕ) (answer : RowAnswer) (past : List Event) → IsDayServing old past
-      → (done : IsRowDone right old said new [] text answer) → IsDayServing new (past ++ events_of_log (next_step old said done.0).log)
-  row-serves old said new text answer past serves done =
+  row-serves : (old : Day) (said : Option Row) (new : Day) (text : List ℕ) (past : List Event) → IsDayServing old past
+      → (done : IsRowDone right old said new [] text) → IsDayServing new (past ++ events_of_log (next_step old said done.0).log)
+  row-serves old said new text past serves done =
       let printed = done.0 in
       let proof = done.1 in
       let does = done.2 in
@@ -33,10 +32,10 @@ module _ (right : Right) (law : PlannerLaw right) where
       → (done : AreRowsDone right old rows new text) → IsDayServing new (past ++ events_of_rows right old rows new text done)
   rows-serve old [] new text past serves done = subst (IsDayServing new) (sym (append-nil past)) (subst (λ (d : Day). IsDayServing d past) (sym done.0) serves)
   rows-serve old (said ∷ rows) new text past serves done =
-      let here = events_of_log (next_step old said done.4.0).log in
-      let there = events_of_rows right done.0 rows new done.2 done.5 in
-      let first = row-serves old said done.0 done.1 done.3 past serves done.4 in
-      subst (IsDayServing new) (append_assoc past here there) (rows-serve done.0 rows new done.2 (past ++ here) first done.5)
+      let here = events_of_log (next_step old said done.3.0).log in
+      let there = events_of_rows right done.0 rows new done.2 done.4 in
+      let first = row-serves old said done.0 done.1 past serves done.3 in
+      subst (IsDayServing new) (append_assoc past here there) (rows-serve done.0 rows new done.2 (past ++ here) first done.4)
 
   -- By the events of the rows and of the end each accepted call is served once.
   pub served-rows : (opening : Snapshot) (rows : List (Option Row)) (new : Day) (text : List ℕ) → IsAccepted opening → IsOpeningSnapshot opening

@@ -11,7 +11,6 @@ use Rattle.lift_text.specs.Lines.{pieces_of, line_of, HasWholeLine}
 use Rattle.lift_text.specs.Reading.{TextState, line_limit}
 use Rattle.day_text.specs.Records.{row_of_line}
 use Rattle.day_laws.specs.RowLines.{rows_of, rows_of_line}
-use Rattle.day_simulator.specs.declared.days.RowAnswer.{RowAnswer}
 use Rattle.day_simulator.specs.Rows.{IsRowDone}
 use Rattle.lift_text.specs.declared.faults.TextFault.{TextFault}
 use Rattle.lift_text.specs.declared.faults.TextFault.TheVariants.{Bad, TooLong as TextTooLong, Read as TextRead, NoMemory as TextNoMemory}
@@ -31,8 +30,8 @@ Right = Snapshot → (held : List (List Stop)) → Stated → List ℕ → Type 
 abbrev pub AreRowsDone : Right → Day → List (Option Row) → Day → (text : List ℕ) → Type 0
 AreRowsDone right old [] new text = (new ≡ old) × (text ≡ [])
 AreRowsDone right old (said ∷ rows) new text =
-    (between : Day) × (first : List ℕ) × (rest : List ℕ) × (answer : RowAnswer) × IsRowDone right old said between [] first answer
-    × AreRowsDone right between rows new rest × (text ≡ first ++ rest)
+    (between : Day) × (first : List ℕ) × (rest : List ℕ) × IsRowDone right old said between [] first × AreRowsDone right between rows new rest
+    × (text ≡ first ++ rest)
 
 -- ---- one line
 

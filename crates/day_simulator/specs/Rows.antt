@@ -5,10 +5,7 @@ use Rattle.elevator_model.specs.declared.Stop.{Stop}
 use Rattle.search_model.specs.Advancing.{advanced}
 use Rattle.search_model.specs.declared.RowFault.{RowFault}
 use Rattle.search_model.specs.declared.Stated.{Stated}
-use Rattle.search_model.specs.Days.{Day, Row, RowLog, Step, IsRightLog, code_of_row, day_after_refused, day_step}
-use Rattle.search_model.specs.Days.RowLog.{Refused, Accepted}
-use Rattle.day_simulator.specs.declared.days.RowAnswer.{RowAnswer}
-use Rattle.day_simulator.specs.declared.days.RowAnswer.TheVariants.{Taken, Refused as RefusedBy}
+use Rattle.search_model.specs.Days.{Day, Row, Step, IsRightLog, day_after_refused, day_step}
 use Rattle.day_laws.specs.Standing.{row_number}
 use Rattle.day_text.specs.LogTexts.{row_text, refused_text}
 
@@ -17,11 +14,6 @@ abbrev pub held_plan : Day → Option Row → List (List Stop)
 held_plan day None = []
 held_plan day (Some row) = (advanced day.world row.time).plan
 
--- what is answered of a row of which the log says this
-abbrev pub answer_of : RowLog → RowAnswer
-answer_of (Refused number fault) = RefusedBy (code_of_row fault)
-answer_of (Accepted number events printed) = Taken printed.cost printed.bound
-
 -- the next row of the day, which says this, with what is printed for it
 abbrev pub next_step : Day → Option Row → Stated → Step
 next_step day said printed = day_step day (row_number day) said printed
@@ -29,20 +21,17 @@ next_step day said printed = day_step day (row_number day) said printed
 -- The row did what the definition says with this plan, which is right where the row was accepted, given the plan that held
 -- before, and its lines stand behind what stood before.
 pub record DoesRow (right : Snapshot → (held : List (List Stop)) → Stated → List ℕ → Type 0) (old : Day) (said : Option Row) (new : Day)
-    (before after : List ℕ) (answer : RowAnswer) (printed : Stated) (proof : List ℕ) : Type 0 where
+    (before after : List ℕ) (printed : Stated) (proof : List ℕ) : Type 0 where
   pub day : new ≡ (next_step old said printed).day
   pub text : after ≡ before ++ row_text new.world.snapshot (next_step old said printed).log proof
   pub right_plan : IsRightLog (λ s stated. right s (held_plan old said) stated proof) new.world (next_step old said printed).log
-  pub answer_is : answer ≡ answer_of (next_step old said printed).log
 
 -- With some plan it did.
 abbrev pub IsRowDone : (right : Snapshot → (held : List (List Stop)) → Stated → List ℕ → Type 0) → (old : Day) → Option Row → (new : Day)
-    → (before after : List ℕ) → RowAnswer → Type 0
-IsRowDone right old said new before after answer =
-    (printed : Stated) × (proof : List ℕ) × DoesRow right old said new before after answer printed proof
+    → (before after : List ℕ) → Type 0
+IsRowDone right old said new before after = (printed : Stated) × (proof : List ℕ) × DoesRow right old said new before after printed proof
 
 -- The row was refused for this fault: nothing changed but the count, and the log says so.
-pub record IsRefused (old : Day) (fault : RowFault) (new : Day) (before after : List ℕ) (answer : RowAnswer) : Type 0 where
+pub record IsRefused (old : Day) (fault : RowFault) (new : Day) (before after : List ℕ) : Type 0 where
   pub day : new ≡ day_after_refused old
   pub text : after ≡ before ++ refused_text (row_number old) fault
-  pub answer_is : answer ≡ RefusedBy (code_of_row fault)

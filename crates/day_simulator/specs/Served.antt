@@ -12,7 +12,7 @@ abbrev pub events_of_rows : (right : Right) (old : Day) (rows : List (Option Row
     → List Event
 events_of_rows right old [] new text done = []
 events_of_rows right old (said ∷ rows) new text done =
-    events_of_log (next_step old said done.4.0).log ++ events_of_rows right done.0 rows new done.2 done.5
+    events_of_log (next_step old said done.3.0).log ++ events_of_rows right done.0 rows new done.2 done.4
 
 -- By these events, and those of the last plan to its end, each accepted call boards once and is delivered once: not before
 -- its release, and not before it boards. These two moments are what is told of it.

@@ -21,21 +21,11 @@ use crate::planners::Planner;
 use call_state::Snapshot;
 use day_laws::world_of_row;
 use day_state::World;
-use day_text::{GoodRow, add_accepted, code_of, put_end, put_refused, read_row};
+use day_text::{GoodRow, add_accepted, put_end, put_refused, read_row};
 use search_model::{Event, RowFault, Served};
 use std::alloc::{AllocError, Global};
 use std::marker::Model;
 use std::mem;
-
-/// What became of a row.
-#[derive(Clone, Copy)]
-pub enum RowAnswer {
-    /// Its call was taken, with a plan of this cost and this bound, in cost units.
-    Taken { cost: u64, bound: u64 },
-    /// It was refused: 41 is no row, 42 before the present moment, 43 as many calls are open as may be, 44 no
-    /// car can take the call.
-    Refused { code: u8 },
-}
 
 /// A day: the world, how many rows were refused, how many of the accepted ones had a bound below their cost,
 /// and the accepted calls.
@@ -171,10 +161,9 @@ impl Day {
     }
 
     /// Refuses the next row for this fault.
-    fn refuse(&mut self, fault: RowFault, out: &mut Vec<u8>) -> Result<RowAnswer, AllocError>
+    fn refuse(&mut self, fault: RowFault, out: &mut Vec<u8>) -> Result<(), AllocError>
         requires { row_number self.old < 2 ^ 32 }
-        ensures refused { IfOk result (λ answer.
-            IsRefused self.old fault self.new out.old.items out.new.items answer) }
+        ensures refused { OnOk result (IsRefused self.old fault self.new out.old.items out.new.items) }
         ensures as_before { OnErr result (self.new ≡ self.old) }
         ensures log_as_before { OnErr result (out.new.items ≡ out.old.items) }
     {
@@ -182,9 +171,7 @@ impl Day {
         put_refused(&mut text, self.number(), fault)?;
         out.extend_from_slice(text.as_slice())?;
         self.refused += 1;
-        Ok(RowAnswer::Refused {
-            code: code_of(fault),
-        })
+        Ok(())
     }
 
     /// Goes on in this world, in which the call of the next row has come and a plan holds of this cost, with
@@ -225,7 +212,7 @@ impl Day {
         row: &GoodRow,
         events: &[Event],
         out: &mut Vec<u8>,
-    ) -> Result<RowAnswer, AllocError>
+    ) -> Result<(), AllocError>
         requires sound { PlannerLaw (P.right planner.now) }
         requires number { row_number self.old < 2 ^ 32 }
         requires taken { fault_of_row self.old.world (row_number self.old) (Some (row_as_said row.now)) ≡ None }
@@ -233,8 +220,8 @@ impl Day {
             (call_of_row (row_number self.old) (row_as_said row.now)) []).snapshot }
         requires held { world.old.plan ≡ (advanced self.old.world row.now.time).plan }
         requires events { events.now ≡ events_by self.old.world row.now.time }
-        ensures row { IfOk result (λ answer. IsRowDone (P.right planner.now) self.old
-            (Some (row_as_said row.now)) self.new out.old.items out.new.items answer) }
+        ensures row { OnOk result (IsRowDone (P.right planner.now) self.old
+            (Some (row_as_said row.now)) self.new out.old.items out.new.items) }
         ensures as_before { OnErr result (self.new ≡ self.old) }
         ensures log_as_before { OnErr result (out.new.items ≡ out.old.items) }
     {
@@ -252,7 +239,7 @@ impl Day {
         let (cost, bound) = (planned.stated.cost, planned.stated.bound);
         world.set_plan(planned.stated.plan);
         match self.take(world, row, events, cost, bound) {
-            Ok(()) => Ok(RowAnswer::Taken { cost, bound }),
+            Ok(()) => Ok(()),
             Err(error) => {
                 out.truncate(before);
                 Err(error)
@@ -284,12 +271,12 @@ impl Day {
         planner: &P,
         row: &GoodRow,
         out: &mut Vec<u8>,
-    ) -> Result<RowAnswer, AllocError>
+    ) -> Result<(), AllocError>
         requires sound { PlannerLaw (P.right planner.now) }
         requires number { row_number self.old < 2 ^ 32 }
         requires good { IsTrue (is_row self.old.world.snapshot.building (row_as_said row.now)) }
-        ensures row { IfOk result (λ answer. IsRowDone (P.right planner.now) self.old
-            (Some (row_as_said row.now)) self.new out.old.items out.new.items answer) }
+        ensures row { OnOk result (IsRowDone (P.right planner.now) self.old
+            (Some (row_as_said row.now)) self.new out.old.items out.new.items) }
         ensures as_before { OnErr result (self.new ≡ self.old) }
         ensures log_as_before { OnErr result (out.new.items ≡ out.old.items) }
     {
@@ -307,11 +294,11 @@ impl Day {
         planner: &P,
         bytes: &[u8],
         out: &mut Vec<u8>,
-    ) -> Result<RowAnswer, AllocError>
+    ) -> Result<(), AllocError>
         requires sound { PlannerLaw (P.right planner.now) }
         requires number { row_number self.old < 2 ^ 32 }
-        ensures row { IfOk result (λ answer. IsRowDone (P.right planner.now) self.old
-            (row_of_line bytes.now) self.new out.old.items out.new.items answer) }
+        ensures row { OnOk result (IsRowDone (P.right planner.now) self.old
+            (row_of_line bytes.now) self.new out.old.items out.new.items) }
         ensures as_before { OnErr result (self.new ≡ self.old) }
         ensures log_as_before { OnErr result (out.new.items ≡ out.old.items) }
     {
@@ -337,38 +324,38 @@ impl Day {
         planner: &P,
         bytes: &[u8],
         out: &mut Vec<u8>,
-    ) -> Result<RowAnswer, AllocError>
+    ) -> Result<(), AllocError>
         requires sound { PlannerLaw (P.right planner.now) }
         requires number { row_number self.old < 2 ^ 32 }
-        ensures row { IfOk result (λ answer. IsRowDone (P.right planner.now) self.old
-            (row_of_line bytes.now) self.new out.old.items out.new.items answer) }
+        ensures row { OnOk result (IsRowDone (P.right planner.now) self.old
+            (row_of_line bytes.now) self.new out.old.items out.new.items) }
         ensures none_lost { IsTrue (loses_none self.new) }
         ensures number { OnOk result (row_number self.new ≡ row_number self.old + 1) }
         ensures as_before { OnErr result (self.new ≡ self.old) }
         ensures log_as_before { OnErr result (out.new.items ≡ out.old.items) }
     {
-        let answer = self.any_row(alloc, planner, bytes, out);
+        let done = self.any_row(alloc, planner, bytes, out);
         // For the proof: a reader tells that no call is lost.
         let _unsolved = self.unsolved();
-        answer
+        done
     }
 
     /// Refuses a row that is too long to be one, with 41. Fewer than 2^32 - 1 rows came before.
     ///
     /// It fails only where there is no memory left: then the day and the log are as before.
-    pub fn long_row(&mut self, out: &mut Vec<u8>) -> Result<RowAnswer, AllocError>
+    pub fn long_row(&mut self, out: &mut Vec<u8>) -> Result<(), AllocError>
         requires { row_number self.old < 2 ^ 32 }
-        ensures refused { IfOk result (λ answer.
-            IsRefused self.old RowFault.NoRow self.new out.old.items out.new.items answer) }
+        ensures refused { OnOk result
+            (IsRefused self.old RowFault.NoRow self.new out.old.items out.new.items) }
         ensures none_lost { IsTrue (loses_none self.new) }
         ensures number { OnOk result (row_number self.new ≡ row_number self.old + 1) }
         ensures as_before { OnErr result (self.new ≡ self.old) }
         ensures log_as_before { OnErr result (out.new.items ≡ out.old.items) }
     {
-        let answer = self.refuse(RowFault::NoRow, out);
+        let done = self.refuse(RowFault::NoRow, out);
         // For the proof: a reader tells that no call is lost.
         let _unsolved = self.unsolved();
-        answer
+        done
     }
 
     /// Runs the last plan to its end, appends what is left of the log, and gives the served calls in the

@@ -61,7 +61,7 @@ mod text_runs;
 pub use call_state::Snapshot;
 pub use day_runs::{Ended, FIRST_LINE, run_day};
 pub use day_text::Planned;
-pub use days::{Day, RowAnswer};
+pub use days::Day;
 pub use elevator_model::Plan;
 pub use planners::Planner;
 pub use row_runs::RunFault;

@@ -19,7 +19,7 @@ loop-row-preserved g c =
     record {
       so_far = row-appended
           (g.P.Planner.right c.args.planner.now) c.args.day.now c.loop-row.day c.run_row.new.day c.args.rows.now c.loop-row.row-index c.row-item.result
-          c.args.log.now.items c.loop-row.log.items c.run_row.new.log.items c.in_ok-run_row.field-0 c.loop-row-test.true c.row-item.is before.so_far did.done;
+          c.args.log.now.items c.loop-row.log.items c.run_row.new.log.items c.loop-row-test.true c.row-item.is before.so_far did.done;
       numbered = omega (arith, before.numbered, did.number);
       lost_none = did.none_lost;
     }

@@ -5,5 +5,5 @@ use Rattle.day_simulator.proofs.days.Day.row.Goals as goal
 pub returns-clause-number : goal.returns-clause-number
 returns-clause-number g c =
     done-numbered (g.P.Planner.right c.args.planner.now) c.args.self.now
-    (row_of_line c.args.bytes.now) c.any_row-answer.new.self c.args.out.now.items c.any_row-answer.new.out.items c.any_row-answer.result
-    c.any_row-answer.ensures.row
+    (row_of_line c.args.bytes.now) c.any_row-done.new.self c.args.out.now.items c.any_row-done.new.out.items c.any_row-done.result
+    c.any_row-done.ensures.row
