@@ -6,11 +6,15 @@ ghost use Rattle.elevator_model.specs.Snapshot.{call_count};
 ghost use Rattle.elevator_model.specs.Plans.{IsFeasiblePlan, plan_cost_of};
 
 use crate::proposing::{proposal, with_call_put};
+use byte_streams::{Gate, OpenGate};
 use call_state::Snapshot;
 use elevator_model::{MOST_CALLS, Plan};
 use plain_plan::plan_of;
 use std::alloc::{AllocError, Global};
 use tour_cost::{is_feasible, plan_cost};
+
+/// How many rounds of moving calls there are at most where nothing else is wanted.
+pub const DEFAULT_ROUNDS: u32 = 8_000;
 
 /// The proposed plan, if it is feasible and costs less than the plain plan, and else that one.
 fn better_plan(snapshot: &Snapshot, plain: Plan, proposed: Option<Plan>) -> Plan
@@ -30,26 +34,37 @@ fn better_plan(snapshot: &Snapshot, plain: Plan, proposed: Option<Plan>) -> Plan
     plain
 }
 
-/// A feasible plan.
-fn feasible_plan(alloc: Global, snapshot: &Snapshot) -> Result<Plan, AllocError>
+/// A feasible plan, after at most this many rounds of moving calls.
+fn feasible_plan<G: Gate>(
+    alloc: Global,
+    snapshot: &Snapshot,
+    rounds: u32,
+    gate: &G,
+) -> Result<Plan, AllocError>
     ensures { IfOk result (λ plan. IsFeasiblePlan snapshot.now plan) }
 {
     let plain = plan_of(alloc, snapshot)?;
-    let proposed = proposal(alloc, snapshot)?;
+    let proposed = proposal(alloc, snapshot, rounds, gate)?;
     Ok(better_plan(snapshot, plain, proposed))
 }
 
 /// A feasible plan of the snapshot: every accepted snapshot has one. The only error is that memory runs out.
 ///
 /// It is made by putting the calls one after another where the cost rises least, and then taking calls out
-/// and putting them back, some at a time, for 100 rounds a call and 8,000 at most. Where that fails, each car
-/// serves its calls one after another.
-pub fn first(alloc: Global, snapshot: &Snapshot) -> Result<Plan, AllocError>
+/// and putting them back, some at a time: for 100 rounds a call, as many as `rounds` at most, and as long as
+/// the gate lets the work go on, which is asked before each round. Where that fails, each car serves its calls
+/// one after another.
+pub fn first<G: Gate>(
+    alloc: Global,
+    snapshot: &Snapshot,
+    rounds: u32,
+    gate: &G,
+) -> Result<Plan, AllocError>
     ensures feasible { IfOk result (λ plan. IsFeasiblePlan snapshot.now plan) }
     ensures exists { (plan : List (List Stop)) × IsFeasiblePlan snapshot.now plan }
 {
     prove!(snapshot.calls().len() <= MOST_CALLS);
-    feasible_plan(alloc, snapshot)
+    feasible_plan(alloc, snapshot, rounds, gate)
 }
 
 /// A feasible plan of the snapshot, made from a plan that lacks this call. The only error is that memory runs
@@ -72,5 +87,5 @@ pub fn insert(
             return Ok(longer);
         }
     }
-    feasible_plan(alloc, snapshot)
+    feasible_plan(alloc, snapshot, DEFAULT_ROUNDS, &OpenGate)
 }

@@ -5,8 +5,9 @@ ghost use Rattle.elevator_model.specs.Snapshot.{call_count, car_count};
 
 use crate::drafts::TourDraft;
 use crate::queues::Queues;
-use crate::reinsertion::{improved, put_call};
+use crate::reinsertion::{Moving, put_call};
 use crate::stops::{stops_of, tour_of};
+use byte_streams::Gate;
 use call_state::Snapshot;
 use elevator_model::Plan;
 use plain_plan::calls_in_order;
@@ -69,26 +70,35 @@ fn put_all(
     Ok(true)
 }
 
-/// A cheap plan of the calls in this order. None where no place is found for a call.
-fn plan_in_order(
+/// A cheap plan of the calls in this order, after at most this many rounds of moving calls. None where no place
+/// is found for a call.
+fn plan_in_order<G: Gate>(
     alloc: Global,
     snapshot: &Snapshot,
     queues: &Queues,
     order: &[u32],
+    rounds: u32,
+    gate: &G,
 ) -> Result<Option<Plan>, AllocError> {
     let mut drafts = opening_drafts(alloc, snapshot, queues)?;
     if !put_all(snapshot, queues, order, drafts.as_mut_slice())? {
         return Ok(None);
     }
-    let best = improved(alloc, snapshot, queues, order, drafts)?;
+    let moving = Moving::new(alloc, snapshot, queues, drafts)?;
+    let best = moving.improved(alloc, order, rounds, gate)?;
     Ok(Some(plan_of(alloc, best.as_slice())?))
 }
 
-/// A cheap plan. None where no place is found for a call.
-pub(crate) fn proposal(alloc: Global, snapshot: &Snapshot) -> Result<Option<Plan>, AllocError> {
+/// A cheap plan, after at most this many rounds of moving calls. None where no place is found for a call.
+pub(crate) fn proposal<G: Gate>(
+    alloc: Global,
+    snapshot: &Snapshot,
+    rounds: u32,
+    gate: &G,
+) -> Result<Option<Plan>, AllocError> {
     let order = calls_in_order(alloc, snapshot)?;
     let queues = Queues::of_snapshot(alloc, snapshot)?;
-    plan_in_order(alloc, snapshot, &queues, order.as_slice())
+    plan_in_order(alloc, snapshot, &queues, order.as_slice(), rounds, gate)
 }
 
 /// The plan with one call more, at its cheapest place. None where no place is found for it.

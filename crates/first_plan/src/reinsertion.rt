@@ -3,13 +3,12 @@
 //! Large neighbourhood search: P. Shaw, *Using constraint programming and local search methods to solve
 //! vehicle routing problems*, CP 1998. Nothing here has to be right: what comes of it is judged.
 
-ghost use Rattle.std.specs.Prelude.{◌≤◌};
-
 use crate::drafts::TourDraft;
 use crate::neighbours::Neighbours;
 use crate::places::best_place;
 use crate::queues::Queues;
 use crate::taken::Taken;
+use byte_streams::Gate;
 use call_sets::CarSet;
 use call_state::Snapshot;
 use search_model::Draws;
@@ -17,9 +16,6 @@ use std::alloc::{AllocError, Global};
 
 /// How many rounds there are for each call.
 const ROUNDS_PER_CALL: usize = 100;
-
-/// How many rounds there are at most.
-const MOST_ROUNDS: usize = 8_000;
 
 /// How many stops may be looked at in all before no further round begins.
 const MOST_TRIED: u64 = 8_000_000;
@@ -32,7 +28,7 @@ const SEED: u64 = 1;
 
 /// The drafts of a plan while calls are moved.
 #[derive(Drop)]
-struct Moving<'a> {
+pub(crate) struct Moving<'a> {
     snapshot: &'a Snapshot,
     queues: &'a Queues,
     /// The best drafts, the last that were kept, and those that are tried.
@@ -116,16 +112,14 @@ fn excess_of(best: u64, rounds_left: u64, rounds: u64) -> u64 {
     best.saturating_mul(share).checked_div(whole).unwrap_or(0)
 }
 
-/// How many rounds there are for this many calls.
-fn rounds_for(calls: usize) -> usize
-    ensures { result ≤ MOST_ROUNDS }
-{
-    ROUNDS_PER_CALL.saturating_mul(calls).min(MOST_ROUNDS)
+/// How many rounds there are for this many calls, where there are at most so many.
+fn rounds_for(calls: usize, most: u32) -> usize {
+    ROUNDS_PER_CALL.saturating_mul(calls).min(most as usize)
 }
 
 impl<'a> Moving<'a> {
     /// The drafts before any call is moved.
-    fn new(
+    pub(crate) fn new(
         alloc: Global,
         snapshot: &'a Snapshot,
         queues: &'a Queues,
@@ -214,14 +208,20 @@ impl<'a> Moving<'a> {
         Ok(())
     }
 
-    /// Rounds as long as there are some and work is left.
-    fn run(&mut self, alloc: Global, order: &[u32]) -> Result<(), AllocError> {
+    /// Rounds as long as there are some, work is left and the gate lets the work go on.
+    fn run<G: Gate>(
+        &mut self,
+        alloc: Global,
+        order: &[u32],
+        most: u32,
+        gate: &G,
+    ) -> Result<(), AllocError> {
         let neighbours = Neighbours::of_calls(alloc, self.snapshot.calls())?;
         let mut draws = Draws::from_number(SEED);
         let mut taken = Taken::new(alloc);
-        let rounds = rounds_for(order.len());
+        let rounds = rounds_for(order.len(), most);
         for round in 0..rounds {
-            if self.work >= MOST_TRIED {
+            if self.work >= MOST_TRIED || !gate.may_go_on() {
                 break;
             }
             taken.choose(round, order, &neighbours, &mut draws)?;
@@ -229,17 +229,17 @@ impl<'a> Moving<'a> {
         }
         Ok(())
     }
-}
 
-/// The best drafts that come of moving calls, some at a time, as long as there are rounds and work left.
-pub(crate) fn improved(
-    alloc: Global,
-    snapshot: &Snapshot,
-    queues: &Queues,
-    order: &[u32],
-    drafts: Vec<TourDraft>,
-) -> Result<Vec<TourDraft>, AllocError> {
-    let mut moving = Moving::new(alloc, snapshot, queues, drafts)?;
-    moving.run(alloc, order)?;
-    Ok(moving.into_best())
+    /// The best drafts that come of moving calls, some at a time, as long as there are rounds and work left and
+    /// the gate lets the work go on.
+    pub(crate) fn improved<G: Gate>(
+        mut self,
+        alloc: Global,
+        order: &[u32],
+        most: u32,
+        gate: &G,
+    ) -> Result<Vec<TourDraft>, AllocError> {
+        self.run(alloc, order, most, gate)?;
+        Ok(self.into_best())
+    }
 }

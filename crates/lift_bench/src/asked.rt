@@ -3,6 +3,7 @@
 use crate::first_plans::Cases;
 use crate::pricings::Pricing;
 use crate::relaxations::Numbers;
+use first_plan::DEFAULT_ROUNDS;
 
 /// A measurement.
 #[derive(Clone, Copy)]
@@ -32,19 +33,20 @@ fn number(words: &[String], place: usize) -> Option<u32> {
     }
 }
 
-/// The numbers after the first word, of which there are at most four.
-fn numbers(words: &[String]) -> Option<[u32; 4]> {
+/// The numbers after the first word, of which there are at most five.
+fn numbers(words: &[String]) -> Option<[u32; 5]> {
     Some([
         number(words, 2)?,
         number(words, 3)?,
         number(words, 4)?,
         number(words, 5)?,
+        number(words, 6)?,
     ])
 }
 
 /// The measurement of the input of this name with these numbers, and None where it has another number of them.
-fn of_input(name: &str, words: usize, numbers: [u32; 4]) -> Option<OfInput> {
-    let [first, second, third, _] = numbers;
+fn of_input(name: &str, words: usize, numbers: [u32; 5]) -> Option<OfInput> {
+    let [first, second, third, ..] = numbers;
     match (name, words) {
         ("pricing", 5) => Some(OfInput::Pricing {
             pricing: Pricing {
@@ -64,16 +66,17 @@ fn of_input(name: &str, words: usize, numbers: [u32; 4]) -> Option<OfInput> {
 }
 
 /// The measurement of this name with these numbers, and None where it has another number of them.
-fn named(name: &str, words: usize, numbers: [u32; 4]) -> Option<Asked> {
-    let [first, second, third, count] = numbers;
+fn named(name: &str, words: usize, numbers: [u32; 5]) -> Option<Asked> {
+    let [first, second, third, count, rounds] = numbers;
     match (name, words) {
         ("first_plan", 3) => Some(Asked::Kinds { count: first }),
-        ("first_plan", 6) => Some(Asked::Costs {
+        ("first_plan", 6 | 7) => Some(Asked::Costs {
             cases: Cases {
                 floors: first,
                 cars: second,
                 calls: third,
                 count,
+                rounds: if words == 7 { rounds } else { DEFAULT_ROUNDS },
             },
         }),
         ("lists", 2) => Some(Asked::Lists),

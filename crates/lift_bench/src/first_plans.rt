@@ -3,9 +3,10 @@
 ghost use Rattle.std.specs.Prelude.{◌≤◌};
 
 use crate::kinds::{KINDS, Kind, drawn_snapshot};
+use byte_streams::OpenGate;
 use call_state::Snapshot;
 use case_maker::make;
-use first_plan::first;
+use first_plan::{DEFAULT_ROUNDS, first};
 use plain_solver::cheapest_plan;
 use search_model::Draws;
 use std::alloc::{AllocError, Global};
@@ -18,18 +19,20 @@ const SEED: u64 = 20_261_127;
 /// How often a snapshot is drawn until one is accepted.
 const MOST_DRAWS: u32 = 20;
 
-/// The generated cases of these sizes with the numbers from 1 to `count`.
+/// The generated cases of these sizes with the numbers from 1 to `count`, and how many rounds of moving calls
+/// their first plans have at most.
 #[derive(Clone, Copy)]
 pub(crate) struct Cases {
     pub(crate) floors: u32,
     pub(crate) cars: u32,
     pub(crate) calls: u32,
     pub(crate) count: u32,
+    pub(crate) rounds: u32,
 }
 
-/// What the first plan of a snapshot costs, in cost units.
-fn first_cost(alloc: Global, snapshot: &Snapshot) -> Result<u64, AllocError> {
-    let plan = first(alloc, snapshot)?;
+/// What the first plan of a snapshot costs after at most this many rounds, in cost units.
+fn first_cost(alloc: Global, snapshot: &Snapshot, rounds: u32) -> Result<u64, AllocError> {
+    let plan = first(alloc, snapshot, rounds, &OpenGate)?;
     Ok(plan_cost(snapshot, &plan))
 }
 
@@ -51,7 +54,7 @@ fn case_cost(alloc: Global, number: u32, cases: Cases) -> Result<u64, AllocError
         cases.cars,
         cases.calls,
     )?;
-    let cost = first_cost(alloc, &snapshot);
+    let cost = first_cost(alloc, &snapshot, cases.rounds);
     drop(snapshot);
     cost
 }
@@ -64,6 +67,7 @@ pub(crate) fn print_costs(rt: &HostRuntime, cases: Cases) -> io::Result<bool> {
         cars,
         calls,
         count,
+        ..
     } = cases;
     if floors < 2 || floors > 64 || cars < 1 || cars > 8 || calls > 64 {
         return Ok(false);
@@ -104,7 +108,8 @@ impl Score {
 
 /// Counts a snapshot in the score. False when out of memory.
 fn compare(alloc: Global, snapshot: &Snapshot, score: &mut Score) -> bool {
-    match (first_cost(alloc, snapshot), cheapest_cost(alloc, snapshot)) {
+    let first = first_cost(alloc, snapshot, DEFAULT_ROUNDS);
+    match (first, cheapest_cost(alloc, snapshot)) {
         (Ok(first), Ok(cheapest)) => {
             score.add(first, cheapest);
             true

@@ -1,7 +1,9 @@
 //! `lift_bench` takes a measurement, which the first word names:
 //!
 //!     first_plan N                    first plans of N drawn snapshots of each kind beside cheapest ones
-//!     first_plan FLOORS CARS CALLS N  what the first plans of N generated cases cost
+//!     first_plan FLOORS CARS CALLS N [ROUNDS]
+//!                                     what the first plans of N generated cases cost, after at most ROUNDS rounds
+//!                                     of moving calls
 //!     pricing FACTOR LIMIT ROUNDS     prices the cars of the snapshot that it reads
 //!     walk TOURS                      walks this many partial tours of that snapshot's first car
 //!     read ROUNDS CASES               reads and writes the building, snapshot and answer that it reads

@@ -5,8 +5,9 @@ ghost use Rattle.elevator_model.specs.Snapshot.{call_count};
 ghost use Rattle.search_model.specs.Nodes.{IsNodeOf};
 
 use assign_branch::{Node, Pricer, root};
+use byte_streams::OpenGate;
 use call_state::Snapshot;
-use first_plan::first;
+use first_plan::{DEFAULT_ROUNDS, first};
 use price_scale::{Price, scaled};
 use pricing_search::Searcher;
 use std::alloc::{AllocError, Global};
@@ -39,7 +40,7 @@ struct Seen {
 fn mean_cost(alloc: Global, snapshot: &Snapshot) -> Result<u64, AllocError>
     ensures { IfOk result (λ cost. cost ≤ 10 ^ 18) }
 {
-    let plan = first(alloc, snapshot)?;
+    let plan = first(alloc, snapshot, DEFAULT_ROUNDS, &OpenGate)?;
     let calls = snapshot.calls().len() as u64;
     Ok(plan_cost(snapshot, &plan) / calls.max(1))
 }

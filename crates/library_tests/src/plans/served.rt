@@ -1,11 +1,12 @@
 //! Plans, tours and moves that are found.
 
 use crate::plans::cases::{FOUR_CALLS, ONE_CALL, TWO_CALLS};
+use byte_streams::OpenGate;
 use call_sets::CallSet;
 use call_state::Snapshot;
 use case_kit::{is_so_of, plan_in, snapshot_in, tour_in};
 use elevator_model::{Move, Plan, Times, Tour};
-use first_plan::{first, insert};
+use first_plan::{DEFAULT_ROUNDS, first, insert};
 use partial_tours::{Moves, Prefix, next_moves};
 use plain_plan::{calls_in_order, opening_floors, plan_of};
 use plain_solver::{cheapest_plan, feasible_tours};
@@ -78,7 +79,7 @@ fn fetches_both(alloc: Global, plan: &Plan) -> bool {
 
 /// Whether the start plan of two calls does so.
 fn starts_with_both(alloc: Global, snapshot: &Snapshot) -> bool {
-    match first(alloc, snapshot) {
+    match first(alloc, snapshot, DEFAULT_ROUNDS, &OpenGate) {
         Ok(plan) => fetches_both(alloc, &plan),
         Err(_) => false,
     }
