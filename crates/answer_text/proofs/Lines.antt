@@ -13,7 +13,7 @@ use Rattle.text_sections.proofs.CanonicalLemmas.{line_of_numbers}
 use Rattle.search_model.specs.declared.Stated.{Stated}
 use Rattle.answer_text.specs.Plans.{by_index}
 use Rattle.answer_text.specs.Texts.{head_words, cost_words, bound_words, tour_words, stop_words, end_words, stop_lines, tour_lines, body_lines, answer_lines}
-use Rattle.answer_text.specs.Texts.{stops_text, body_text, answer_text, solved_line, solved_text}
+use Rattle.answer_text.specs.Texts.{stops_text, body_text, answer_text}
 use Rattle.answer_text.proofs.Boards.{flat_map-flat_map}
 
 -- ---- the line of a stop
@@ -90,13 +90,6 @@ wrote_answer s stated old head body new put_head put_body put_end =
   where
     regroup : (a b c d : List ℕ) → ((a ++ b) ++ c) ++ d ≡ a ++ (b ++ (c ++ d))
     regroup a b c d = simp append_assoc
-
--- the text of a solved answer: the section of the answer, and the comment line behind it
-pub wrote_solved : (s : Snapshot) (stated : Stated) (old section new : List ℕ) → section ≡ old ++ answer_text s stated → new ≡ section ++ solved_line
-    → new ≡ old ++ solved_text s stated
-unfolding solved_text
-wrote_solved s stated old section new first second = second ∙ ap (λ (xs : List ℕ). xs ++ solved_line) first
-    ∙ append_assoc old (answer_text s stated) solved_line
 
 -- ---- what is said of an answer
 

@@ -56,9 +56,6 @@ body_text s plan cost bound = lines_text (body_lines s plan cost bound)
 unfoldable pub answer_text : Snapshot → Stated → List ℕ
 answer_text s stated = lines_text (answer_lines s stated)
 
--- the comment line behind the answer of a search that ended
+-- the comment line after the answer of a search that was solved
 abbrev pub solved_line : List ℕ
 solved_line = codes "# solved\n"
-
-unfoldable pub solved_text : Snapshot → Stated → List ℕ
-solved_text s stated = answer_text s stated ++ solved_line

@@ -13,8 +13,7 @@
 //!   the first and the last, of the stops of a tour; when out of memory nothing was appended.
 //!
 //! The order of a stop's boards has no meaning: they are written by rising index (`by_index`).
-//! `specs/Drafts.antt` says what each line does. `solved_text` is the text of an answer with the comment line
-//! after it, for the program.
+//! `specs/Drafts.antt` says what each line does.
 #![tactic(auto)]
 
 mod drafts;

@@ -129,11 +129,14 @@ impl<'a, P: Planner + Sync> Jobs for BankJobs<'a, P> {
     ghost is_right = { λ it k log. (bank : BankValue) → slice_get it.banks.now k ≡ Some bank
         → IsBankLog (P.right it.planner.now) bank log };
 
+    // It is done whether or not the work may go on: no search is in it that could be stopped.
+    ghost is_done = { λ _ _. Unit {0} };
+
     fn count(&self) -> u32 {
         self.banks.len() as u32
     }
 
-    fn work(&self, k: u32, _desk: &mut ()) -> Result<BankLog, AllocError> {
+    fn work(&self, k: u32, _may_go_on: bool, _desk: &mut ()) -> Result<BankLog, AllocError> {
         let bank = &self.banks[k as usize];
         run_day(
             self.alloc,

@@ -6,7 +6,7 @@ use Rattle.search_model.specs.declared.Stated.{Stated}
 use Rattle.search_model.specs.declared.Twig.{Twig}
 use Rattle.search_model.specs.declared.Turn.{Turn}
 use Rattle.search_model.specs.declared.StopReason.{StopReason}
-use Rattle.search_model.specs.declared.StopReason.TheVariants.{Solved, Rounds, Moves}
+use Rattle.search_model.specs.declared.StopReason.TheVariants.{Solved, Rounds, Moves, Told}
 use Rattle.search_model.specs.Solving.{IsSolveAnswer}
 use Rattle.certified_search.proofs.Enough.{certified_same}
 use Rattle.lift_words.specs.declared.request.SolveOptions.{SolveOptions}
@@ -32,3 +32,4 @@ done_where_enough options s stated tree turns Solved answer bound certificate pr
     is ∙ ap status_of_ending end_is ∙ ap (λ (b : Bool). status_of_ending (ending_of Solved options.claims b)) equal
 done_where_enough options s stated tree turns (Rounds done) answer bound certificate printed end status end_is is solved enough = absurd cc
 done_where_enough options s stated tree turns (Moves car count) answer bound certificate printed end status end_is is solved enough = absurd cc
+done_where_enough options s stated tree turns Told answer bound certificate printed end status end_is is solved enough = absurd cc

@@ -13,7 +13,7 @@ use Rattle.search_model.specs.declared.Twig.{Twig}
 use Rattle.search_model.specs.declared.Twig.TheVariants.{Split, Leaf as Tip}
 use Rattle.search_model.specs.declared.Turn.{Turn}
 use Rattle.search_model.specs.declared.StopReason.{StopReason}
-use Rattle.search_model.specs.declared.StopReason.TheVariants.{Solved, Rounds, Moves}
+use Rattle.search_model.specs.declared.StopReason.TheVariants.{Solved, Rounds, Moves, Told}
 use Rattle.search_model.specs.declared.Verdict.TheVariants.{Yes}
 use Rattle.search_model.specs.Certificates.{TreePlace, Placed, Proves, placed_twigs}
 use Rattle.search_model.specs.Solving.{IsReason, IsSolveAnswer}
@@ -121,6 +121,7 @@ closes s rounds moves limit cost bound printed tree (Moves car count) ids few_ro
     let count_is = reason.limit in
     let small : count < 2 ^ 32 = omega (arith, count_is, few_moves) in
     numbers_close (codes " stopped moves") ((spec_of s car).id ∷ count ∷ []) refl (lit< tt) (ids car reason.is_car, (small, tt)) (lit< tt)
+closes s rounds moves limit cost bound printed tree Told ids few_rounds few_moves few_claims reason false = absurd reason
 
 -- ---- the verdict
 

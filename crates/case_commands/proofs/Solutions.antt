@@ -8,7 +8,7 @@ use Rattle.elevator_model.specs.Plans.{IsOptimal, plan_cost_of}
 use Rattle.search_model.specs.declared.Twig.{Twig}
 use Rattle.search_model.specs.declared.Turn.{Turn}
 use Rattle.search_model.specs.declared.StopReason.{StopReason}
-use Rattle.search_model.specs.declared.StopReason.TheVariants.{Solved, Rounds, Moves}
+use Rattle.search_model.specs.declared.StopReason.TheVariants.{Solved, Rounds, Moves, Told}
 use Rattle.search_model.specs.Solving.{IsSolveAnswer, IsReason}
 use Rattle.search_model.specs.Certificates.{Proves}
 use Rattle.search_model.proofs.TreeLemmas.{proves-bound}
@@ -19,7 +19,7 @@ use Rattle.lift_words.specs.declared.request.SolveOptions.{SolveOptions}
 use Rattle.command_ends.specs.declared.status.Status.{Status}
 use Rattle.command_ends.specs.declared.status.Status.TheVariants.{Done, Stopped, Memory}
 use Rattle.case_commands.specs.declared.endings.Ending.{Ending}
-use Rattle.case_commands.specs.declared.endings.Ending.TheVariants.{IsSolved, OfRounds, OfMoves, OfClaims}
+use Rattle.case_commands.specs.declared.endings.Ending.TheVariants.{IsSolved, OfRounds, OfMoves, OfTime, OfClaims}
 use Rattle.command_ends.specs.Ends.{Streams, Ends, Puts}
 use Rattle.command_ends.proofs.EndLemmas.{ends_either}
 use Rattle.case_commands.specs.SolveOutcome.{SolveDue, AnswerIsDue, AreEnough, IsAnswered, IsPrinted, IsSolution, certificate_part, closing_line, ending_of}
@@ -36,6 +36,7 @@ cost_is_bound : (s : Snapshot) (rounds moves cost bound : ℕ) (tree : List Twig
 cost_is_bound s rounds moves cost bound tree Solved e reason = reason
 cost_is_bound s rounds moves cost bound tree (Rounds done) e reason = absurd (cc e)
 cost_is_bound s rounds moves cost bound tree (Moves car count) e reason = absurd (cc e)
+cost_is_bound s rounds moves cost bound tree Told e reason = absurd reason
 
 -- a plan whose cost is a bound that a tree proves is optimal
 best_plan : (s : Snapshot) (plan : List (List Stop)) (cost bound : ℕ) (tree : List Twig) → IsAccepted s → Proves s plan cost bound tree → cost ≡ bound
@@ -61,6 +62,7 @@ solved_where_done why limit true e = refl
 solved_where_done Solved limit false e = absurd (cc e)
 solved_where_done (Rounds done) limit false e = absurd (cc e)
 solved_where_done (Moves car count) limit false e = absurd (cc e)
+solved_where_done Told limit false e = absurd (cc e)
 
 -- the bound that is printed is at most that of the search, also without a certificate
 printed_low : (options : SolveOptions) (s : Snapshot) (stated : Stated) (tree : List Twig) (bound : ℕ) (certificate : List Twig)
@@ -109,6 +111,7 @@ pub ended_by : (ending : Ending) (status : Status) → status ≡ status_of_endi
 ended_by IsSolved status is = inl is
 ended_by (OfRounds done) status is = inr is
 ended_by (OfMoves car count) status is = inr is
+ended_by OfTime status is = inr is
 ended_by (OfClaims limit) status is = inr is
 
 -- the answer that was put, unless the sink failed

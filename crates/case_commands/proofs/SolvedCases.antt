@@ -7,7 +7,7 @@ use Rattle.elevator_model.specs.Snapshot.{Snapshot, IsAccepted}
 use Rattle.search_model.specs.declared.Twig.{Twig}
 use Rattle.search_model.specs.declared.Turn.{Turn}
 use Rattle.search_model.specs.declared.StopReason.{StopReason}
-use Rattle.search_model.specs.declared.StopReason.TheVariants.{Solved, Rounds, Moves}
+use Rattle.search_model.specs.declared.StopReason.TheVariants.{Solved, Rounds, Moves, Told}
 use Rattle.search_model.specs.Cases.{case_building, case_snapshot}
 use Rattle.search_model.specs.Solving.{IsSolveAnswer, IsReason}
 use Rattle.search_model.specs.Verdicts.{rounds_enough, moves_enough}
@@ -46,11 +46,13 @@ module _ (s : Snapshot) (rounds moves cost bound : ℕ) (tree : List Twig) (stat
       (λ e. (let never : Stopped ≡ Done = sym is ∙ e in absurd cc), λ e. (let below = reason.below in absurd (omega (arith, e, below))))
   done_at (Moves car count) is reason =
       (λ e. (let never : Stopped ≡ Done = sym is ∙ e in absurd cc), λ e. (let below = reason.below in absurd (omega (arith, e, below))))
+  done_at Told is reason = absurd reason
 
   stopped_at : (why : StopReason) → status ≡ status_of why → IsReason s rounds moves cost bound tree why → (status ≡ Stopped) ↔ (bound < cost)
   stopped_at Solved is reason = (λ e. (let never : Done ≡ Stopped = sym is ∙ e in absurd cc), λ below. absurd (omega (arith, reason, below)))
   stopped_at (Rounds done) is reason = (λ _. reason.below, λ _. is)
   stopped_at (Moves car count) is reason = (λ _. reason.below, λ _. is)
+  stopped_at Told is reason = absurd reason
 
 -- ---- the lines, and how the command ends
 
@@ -80,6 +82,7 @@ module _ (options : RunOptions) (status : Status) (text : List ℕ) (solved : Is
   by_reason Solved reason = inl (solved.done.1 reason)
   by_reason (Rounds done) reason = inr (solved.stopped.1 reason.below)
   by_reason (Moves car count) reason = inr (solved.stopped.1 reason.below)
+  by_reason Told reason = absurd reason
 
   is_ended : (status ≡ Done) ⊎ (status ≡ Stopped)
   is_ended = by_reason solved.why solved.answer.reason

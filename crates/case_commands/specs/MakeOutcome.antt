@@ -8,7 +8,7 @@ use Rattle.case_text.specs.CaseTexts.{IsCaseText, case_text}
 use Rattle.search_model.specs.declared.Twig.{Twig}
 use Rattle.search_model.specs.declared.Turn.{Turn}
 use Rattle.search_model.specs.declared.StopReason.{StopReason}
-use Rattle.search_model.specs.declared.StopReason.TheVariants.{Solved, Rounds, Moves}
+use Rattle.search_model.specs.declared.StopReason.TheVariants.{Solved, Rounds, Moves, Told}
 use Rattle.search_model.specs.Solving.{IsSolveAnswer}
 use Rattle.search_model.specs.Verdicts.{rounds_enough, moves_enough}
 use Rattle.search_model.specs.Cases.{IsCase}
@@ -50,6 +50,7 @@ abbrev pub status_of : StopReason → Status
 status_of Solved = Done
 status_of (Rounds done) = Stopped
 status_of (Moves car count) = Stopped
+status_of Told = Stopped
 
 -- the six lines of a case that was solved
 abbrev pub run_text : CaseSizes → (cost bound : ℕ) → List ℕ

@@ -18,9 +18,9 @@ use Rattle.search_model.specs.declared.Verdict.TheVariants.{Yes}
 use Rattle.search_model.specs.declared.Twig.{Twig}
 use Rattle.search_model.specs.declared.Turn.{Turn}
 use Rattle.search_model.specs.declared.StopReason.{StopReason}
-use Rattle.search_model.specs.declared.StopReason.TheVariants.{Solved, Rounds, Moves}
+use Rattle.search_model.specs.declared.StopReason.TheVariants.{Solved, Rounds, Moves, Told}
 use Rattle.case_commands.specs.declared.endings.Ending.{Ending}
-use Rattle.case_commands.specs.declared.endings.Ending.TheVariants.{IsSolved, OfRounds, OfMoves, OfClaims}
+use Rattle.case_commands.specs.declared.endings.Ending.TheVariants.{IsSolved, OfRounds, OfMoves, OfTime, OfClaims}
 use Rattle.search_model.specs.Solving.{IsSolveAnswer}
 use Rattle.search_model.specs.Verdicts.{rounds_enough, moves_enough, verdict_of}
 use Rattle.certified_search.specs.Certified.{AreClaimsEnough, IsCertified}
@@ -37,12 +37,14 @@ ending_of why limit true = IsSolved
 ending_of Solved limit false = OfClaims limit
 ending_of (Rounds done) limit false = OfRounds done
 ending_of (Moves car count) limit false = OfMoves car count
+ending_of Told limit false = OfTime
 
 -- the comment line that says so
 abbrev pub closing_line : Snapshot → Ending → List ℕ
 closing_line s IsSolved = solved_line
 closing_line s (OfRounds done) = line (codes "# stopped rounds") (done ∷ [])
 closing_line s (OfMoves car count) = line (codes "# stopped moves") ((spec_of s car).id ∷ count ∷ [])
+closing_line s OfTime = codes "# stopped time\n"
 closing_line s (OfClaims limit) = line (codes "# stopped claims") (limit ∷ [])
 
 -- the car that it names is one of the snapshot's
@@ -50,12 +52,14 @@ abbrev pub IsCarOf : Snapshot → Ending → Type 0
 IsCarOf s IsSolved = Unit {0}
 IsCarOf s (OfRounds done) = Unit {0}
 IsCarOf s (OfMoves car count) = car < car_count s
+IsCarOf s OfTime = Unit {0}
 IsCarOf s (OfClaims limit) = Unit {0}
 
 abbrev pub status_of_ending : Ending → Status
 status_of_ending IsSolved = Done
 status_of_ending (OfRounds done) = Stopped
 status_of_ending (OfMoves car count) = Stopped
+status_of_ending OfTime = Stopped
 status_of_ending (OfClaims limit) = Stopped
 
 -- the certificate, where one is wanted

@@ -15,6 +15,8 @@ pub(crate) enum Ending {
     OfRounds { done: u64 },
     /// The car has at least this many partial tours, which is the limit, where nothing is left to split.
     OfMoves { car: u32, count: u64 },
+    /// The search was told to stop.
+    OfTime,
     /// The search's own bound needs more claims than this, which is the limit.
     OfClaims { limit: u64 },
 }
@@ -31,6 +33,7 @@ impl Ending {
             StopReason::Solved => Self::OfClaims { limit },
             StopReason::Rounds { done } => Self::OfRounds { done },
             StopReason::Moves { car, count } => Self::OfMoves { car, count },
+            StopReason::Told => Self::OfTime,
         }
     }
 
@@ -40,7 +43,9 @@ impl Ending {
     {
         match self {
             Self::IsSolved => Status::Done,
-            Self::OfRounds { .. } | Self::OfMoves { .. } | Self::OfClaims { .. } => Status::Stopped,
+            Self::OfRounds { .. } | Self::OfMoves { .. } | Self::OfTime | Self::OfClaims { .. } => {
+                Status::Stopped
+            }
         }
     }
 }

@@ -72,6 +72,7 @@ fn put_closing(snapshot: &Snapshot, ending: Ending, text: &mut Vec<u8>) -> Resul
             let id = snapshot.building().cars()[car as usize].id;
             put_line(text, b"# stopped moves", &[u64::from(id), count])
         }
+        Ending::OfTime => text.extend_from_slice(b"# stopped time\n"),
         Ending::OfClaims { limit } => put_line(text, b"# stopped claims", &[limit]),
     }
 }

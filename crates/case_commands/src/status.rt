@@ -13,7 +13,7 @@ pub(crate) fn status_of(why: StopReason) -> Status
 {
     match why {
         StopReason::Solved => Status::Done,
-        StopReason::Rounds { .. } | StopReason::Moves { .. } => Status::Stopped,
+        StopReason::Rounds { .. } | StopReason::Moves { .. } | StopReason::Told => Status::Stopped,
     }
 }
 

@@ -1,12 +1,13 @@
 //! A crew whose jobs are looked out for.
 
-ghost use Rattle.std.specs.Prelude.{◌≡◌, ℕ, ◌*◌, All, IfOk, Some, length, slice_get, slice_index};
+ghost use Rattle.std.specs.Prelude.{◌≡◌, ℕ, ◌*◌, All, IfOk, IfSome, IsSome, Option, Some, length, slice_get, slice_index};
 ghost use Rattle.work_fan.specs.Work.{Serving};
 ghost use Rattle.pricing_rounds.specs.Rounds.{IsAnswerAt};
 
 use crate::lookout::Lookout;
 use assign_branch::Pricer;
 use bank_days::{BankJobs, BankLog};
+use byte_streams::Gate;
 use cert_checker::{Judging, JudgingCrew, Reason};
 use cert_claims::{Claims, Counting, CountingCrew};
 use group_commands::{GroupCrew, Searches};
@@ -27,12 +28,13 @@ pub(crate) struct Watched<'a, R: Threads> {
 }
 
 impl<R: Threads> SearchCrew for Watched<'_, R> {
-    fn price_all<'a>(
+    fn price_all<'a, G: Gate>(
         &self,
         alloc: Global,
         round: &Round<'_, Searcher<'a>>,
         desks: &mut [Desk<'a>],
-    ) -> Result<Vec<TurnOf>, AllocError> {
+        _gate: &G,
+    ) -> Result<Vec<Option<TurnOf>>, AllocError> {
         price_in_threads(self, alloc, round, desks)
     }
 }
@@ -42,14 +44,15 @@ fn price_in_threads<P: Pricer, R: Threads>(
     alloc: Global,
     round: &Round<P>,
     desks: &mut [P::Desk],
-) -> Result<Vec<TurnOf>, AllocError>
+) -> Result<Vec<Option<TurnOf>>, AllocError>
     requires { Serving (P.owns round.now.pricer.now) desks.old }
     ensures count { IfOk result (λ answers.
         length answers.items ≡ length round.now.tasks.now * round.now.cars) }
     ensures right { IfOk result (λ answers.
-        (k : ℕ) (a : TurnOf) → slice_get answers.items k ≡ Some a
-        → IsAnswerAt (P.snapshot round.now.pricer.now) round.now.most_tours
-        round.now.tasks.now round.now.cars (slice_index round.now.order.now k) a) }
+        (k : ℕ) (answer : Option TurnOf) → slice_get answers.items k ≡ Some answer
+        → IfSome answer (IsAnswerAt (P.snapshot round.now.pricer.now) round.now.most_tours
+        round.now.tasks.now round.now.cars (slice_index round.now.order.now k))) }
+    ensures done { IfOk result (λ answers. All IsSome answers.items) }
     ensures desks { All (P.owns round.now.pricer.now) desks.new }
 {
     fan(watched.threads, alloc, round, desks, watched.lookout)

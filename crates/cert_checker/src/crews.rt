@@ -6,7 +6,7 @@ ghost use Rattle.cert_checker.specs.declared.tasks.Task.{Task as TaskValue};
 ghost use Rattle.cert_checker.specs.Judging.{reason_of_task};
 
 use crate::judging::Judging;
-use byte_streams::Gate;
+use byte_streams::OpenGate;
 use kept_tours::Desk;
 use search_model::Reason;
 use std::alloc::{AllocError, Global};
@@ -32,13 +32,13 @@ pub trait JudgingCrew {
         ensures desks { All (λ desk. desk.snapshot.now ≡ judging.now.snapshot.now) desks.new };
 }
 
-impl<G: Gate> JudgingCrew for Alone<'_, G> {
+impl JudgingCrew for Alone {
     fn judge_all<'a>(
         &self,
         alloc: Global,
         judging: &Judging<'a>,
         desks: &mut [Desk<'a>],
     ) -> Result<Vec<Option<Reason>>, AllocError> {
-        fan_alone(alloc, judging, desks, self.gate())
+        fan_alone(alloc, judging, desks, &OpenGate)
     }
 }

@@ -41,11 +41,19 @@ impl<'a> Jobs for Judging<'a> {
     ghost is_right = { λ it k answer. (task : TaskValue) → slice_get it.tasks.now k ≡ Some task
         → answer ≡ reason_of_task it.snapshot.now it.bound task };
 
+    // It is done whether or not the work may go on: no search is in it that could be stopped.
+    ghost is_done = { λ _ _. Unit {0} };
+
     fn count(&self) -> u32 {
         self.tasks.len() as u32
     }
 
-    fn work(&self, k: u32, desk: &mut Desk<'a>) -> Result<Option<Reason>, AllocError> {
+    fn work(
+        &self,
+        k: u32,
+        _may_go_on: bool,
+        desk: &mut Desk<'a>,
+    ) -> Result<Option<Reason>, AllocError> {
         let task = &self.tasks[k as usize];
         judge_leaf(
             self.alloc,

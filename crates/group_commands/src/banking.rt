@@ -75,9 +75,8 @@ fn answer_of<C: GroupCrew, G: Gate>(
     ensures { IfOk result (λ answer. AreTold limits.rounds limits.most_tours banks.now answer.status
         answer.text.items) }
 {
-    let alone = Alone::new(&OpenGate);
     let lone = Runtime {
-        crew: &alone,
+        crew: &Alone,
         workers: Workers::one(),
         alloc: runtime.alloc,
         gate: &OpenGate,

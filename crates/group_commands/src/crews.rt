@@ -9,7 +9,7 @@ ghost use Rattle.bank_days.specs.Banks.{IsBankLog};
 
 use crate::planning::Searches;
 use bank_days::{BankJobs, BankLog, BanksCrew};
-use byte_streams::Gate;
+use byte_streams::OpenGate;
 use std::alloc::{AllocError, Global};
 use work_fan::{Alone, fan_alone};
 
@@ -32,14 +32,14 @@ pub trait GroupCrew {
             jobs.now.planner.now.limits.most_tours jobs.now.planner.now.claims) bank log) };
 }
 
-impl<G: Gate> GroupCrew for Alone<'_, G> {
+impl GroupCrew for Alone {
     fn run_all(
         &self,
         alloc: Global,
         jobs: &BankJobs<Searches>,
         desks: &mut [()],
     ) -> Result<Vec<BankLog>, AllocError> {
-        fan_alone(alloc, jobs, desks, self.gate())
+        fan_alone(alloc, jobs, desks, &OpenGate)
     }
 }
 

@@ -9,4 +9,5 @@ mod extras;
 mod faults;
 mod refusals;
 mod served;
+mod told;
 mod walks;

@@ -10,3 +10,4 @@ pub mod SearchEnd
 pub mod RootDue
 pub mod RootStart
 pub mod ReasonLaws
+pub mod ToldLaws

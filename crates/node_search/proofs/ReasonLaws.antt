@@ -4,7 +4,7 @@ use Rattle.std.proofs.lemmas.Int.{ints}
 use Rattle.elevator_model.specs.Snapshot.{Snapshot}
 use Rattle.search_model.specs.declared.Turn.{Turn}
 use Rattle.search_model.specs.declared.StopReason.{StopReason}
-use Rattle.search_model.specs.declared.StopReason.TheVariants.{Solved, Rounds, Moves}
+use Rattle.search_model.specs.declared.StopReason.TheVariants.{Solved, Rounds, Moves, Told}
 use Rattle.search_tree.specs.Sheets.{PriceSheet}
 use Rattle.node_search.specs.declared.found.Found.{Found}
 use Rattle.node_search.specs.declared.search.Search.{Search}
@@ -37,3 +37,4 @@ names_moves s rounds most_tours start f x rest low = by_reason f.why refl x.reas
         let at = below_at s rounds most_tours start f.turns x.last x.ended f.stated.bound x.bound (omega (arith, c, low)) in
         absurd (left_spent s rounds most_tours start f.turns x.last x.ended at.0 at.1 rest (why.unspent rest at.0 at.1))
     by_reason (Moves car count) is why = (car, is ∙ ap (λ (n : ℕ). Moves car n) why.count_is)
+    by_reason Told is never = absurd never

@@ -1,5 +1,5 @@
 -- The root before its first turn, and after the turns that are due.
-use Rattle.std.proofs.Common.{rules, ◌≡◌, ℕ, List, length, refl, sym, ap, ◌∙◌, subst, arith}
+use Rattle.std.proofs.Common.{◌≤◌, rules, ◌≡◌, ℕ, List, length, refl, sym, ap, ◌∙◌, subst, arith}
 use Rattle.std.specs.Prelude.{All, pos}
 use Rattle.std.proofs.lemmas.Int.{ints}
 use Rattle.elevator_model.specs.Snapshot.{Snapshot}
@@ -15,7 +15,7 @@ use Rattle.node_search.specs.declared.root.Root.{Root}
 use Rattle.root_turns.specs.Dues.{IsTurnBelow, due_prices, start_of_turns}
 use Rattle.root_turns.specs.Pools.{IsPooled}
 use Rattle.node_search.specs.Roots.{IsRoot, IsNewRoot, HasTurned}
-use Rattle.node_search.specs.Found.{HasDueTurns, IsTurned}
+use Rattle.node_search.specs.Found.{IsTurnedSoFar}
 
 module _ (s : Snapshot) (most_tours : ℕ) (start : PriceSheet) (root : Root) (is : IsNewRoot s start root) (within : IsSheetIn s (root_of s) start) where
   abbrev branch : Branch
@@ -59,12 +59,13 @@ module _ (s : Snapshot) (most_tours : ℕ) (start : PriceSheet) (root : Root) (i
         covered = λ lt. absurd (let no = none in omega (arith, lt, no));
       }
 
-  pub turned_is : (rounds : ℕ) (new : Root) → IsRoot s most_tours new → HasTurned root new → HasDueTurns s rounds new → IsTurned s rounds most_tours start new
-  turned_is rounds new stands turned due =
+  pub so_far_is : (rounds : ℕ) (new : Root) → IsRoot s most_tours new → HasTurned root new → length new.turns.items ≤ rounds
+      → IsTurnedSoFar s rounds most_tours start new
+  so_far_is rounds new stands turned few =
       record {
         stands = stands;
         start_is = turned.start ∙ ap (λ (ts : List Turn). start_of_turns ts root.prices.items) is.turns ∙ is.prices;
         sheet = within;
         rises = (let up = turned.rises in let was = ap (λ (bs : List Branch). sum_of_sheet (at_place bs 0).sheet) is.tree in omega (arith, ints, up, was));
-        due = due;
+        few = few;
       }

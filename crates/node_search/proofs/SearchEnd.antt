@@ -17,9 +17,9 @@ use Rattle.search_model.specs.declared.Turn.{Turn}
 use Rattle.search_model.specs.declared.Twig.{Twig}
 use Rattle.search_model.specs.declared.Twig.TheVariants.{Split, Leaf as Tip}
 use Rattle.search_model.specs.declared.StopReason.{StopReason}
-use Rattle.search_model.specs.declared.StopReason.TheVariants.{Solved, Rounds, Moves}
+use Rattle.search_model.specs.declared.StopReason.TheVariants.{Solved, Rounds, Moves, Told}
 use Rattle.search_model.specs.Certificates.{TreePlace, places_after, root_place}
-use Rattle.search_model.specs.Solving.{HasChoice, IsFound, IsReason, IsOutOfMoves, is_split, bound_of_leaf, least_bound, sum_of_turn}
+use Rattle.search_model.specs.Solving.{HasChoice, IsEnding, IsFound, IsReason, IsOutOfMoves, is_split, bound_of_leaf, least_bound, sum_of_turn}
 use Rattle.search_tree.specs.declared.branches.SplitAt.{SplitAt}
 use Rattle.search_tree.specs.declared.branches.Branch.{Branch}
 use Rattle.search_tree.specs.Sheets.{PriceSheet, sum_of_sheet}
@@ -35,33 +35,41 @@ use Rattle.node_search.specs.declared.root.Root.{Root}
 use Rattle.node_search.specs.declared.search.Search.{Search}
 use Rattle.node_search.specs.Best.{IsBest}
 use Rattle.node_search.specs.Roots.{IsRoot, leaf_of_root}
-use Rattle.node_search.specs.Searches.{HasRun, IsAtRest, IsLeft, IsSearching}
+use Rattle.node_search.specs.Searches.{HasGoneOn, HasRun, IsAtRest, IsLeft, IsSearching}
 use Rattle.node_search.specs.Found.{HasTurnsAbove, IsAnswerOf, IsBegun, IsBelow, IsEnded, IsReasonOf, IsTurned, least_of}
 use Rattle.node_search.proofs.RootTurns.{root_branch}
 use Rattle.root_turns.proofs.TurnPrices.{stored}
-use Rattle.node_search.proofs.SearchStart.{branches_alone, lone_stands, turns_above}
+use Rattle.node_search.proofs.SearchStart.{branches_alone, lone_stands, so_far, turns_above}
 
--- what stands below the root stands after the rounds
+-- what stands below the root stands after some rounds
+pub begun_after : (s : Snapshot) (rounds most_tours : ℕ) (start : PriceSheet) (turns : List Turn) (old new : Search)
+    → IsBegun s rounds most_tours start turns old → IsSearching s most_tours new → HasGoneOn s rounds old new
+    → IsBegun s rounds most_tours start turns new
+begun_after s rounds most_tours start turns old new begun searching run =
+    record {
+      searching = searching;
+      above = record {
+        sheet = begun.above.sheet;
+        root_turns = begun.above.root_turns;
+        few_turns = begun.above.few_turns;
+        above_start = run.sums (sum_of_sheet start) begun.above.above_start;
+        above_turns =
+            All-weaker (λ (turn : Turn). AllInTree (IsAtLeast (sum_of_turn turn)) s old.tree.branches)
+            (λ (turn : Turn). AllInTree (IsAtLeast (sum_of_turn turn)) s new.tree.branches)
+            (λ turn h. run.sums (sum_of_turn turn) h) turns begun.above.above_turns;
+        tours = λ enough other feasible of. (let le = begun.above.tours enough other feasible of in let cheaper = run.cheaper in omega (arith, le, cheaper));
+      };
+      few = run.few;
+      many = begun.many;
+    }
+
+-- and after all of them
 pub ended_of : (s : Snapshot) (rounds most_tours : ℕ) (start : PriceSheet) (turns : List Turn) (old new : Search) → IsBegun s rounds most_tours start turns old
     → IsSearching s most_tours new → HasRun s rounds old new → IsEnded s rounds most_tours start turns new
 ended_of s rounds most_tours start turns old new begun searching run =
     record {
-      begun = record {
-        searching = searching;
-        above = record {
-          sheet = begun.above.sheet;
-          root_turns = begun.above.root_turns;
-          few_turns = begun.above.few_turns;
-          above_start = run.sums (sum_of_sheet start) begun.above.above_start;
-          above_turns =
-              All-weaker (λ (turn : Turn). AllInTree (IsAtLeast (sum_of_turn turn)) s old.tree.branches)
-              (λ (turn : Turn). AllInTree (IsAtLeast (sum_of_turn turn)) s new.tree.branches)
-              (λ turn h. run.sums (sum_of_turn turn) h) turns begun.above.above_turns;
-          tours = λ enough other feasible of. (let le = begun.above.tours enough other feasible of in let cheaper = run.cheaper in omega (arith, le, cheaper));
-        };
-        few = run.few;
-        many = begun.many;
-      };
+      begun = begun_after s rounds most_tours start turns old new begun searching
+          (record { cheaper = run.cheaper; few = run.few; sums = run.sums });
       ended = run.ended;
     }
 
@@ -89,11 +97,11 @@ pub found_solved : (s : Snapshot) (rounds most_tours : ℕ) (start : PriceSheet)
     → IsFound start.prices (bound_of_sheet start) s rounds most_tours root.best.plan root.best.cost bound
     (map twig_of root.tree.branches) root.turns.items Solved
 found_solved s rounds most_tours start root bound cars turned closed bound_is =
-    found s rounds most_tours start root.turns.items root.tree.branches root.best.plan root.best.cost bound Solved (record {
+    found s rounds most_tours start root.turns.items root.tree.branches root.best.plan root.best.cost bound (root.best.cost ≡ bound) (record {
       sheet = above.sheet;
       root_turns = above.root_turns;
       few_turns = above.few_turns;
-      branches = branches_alone s rounds most_tours start root turned;
+      branches = branches_alone s rounds most_tours start root (so_far s rounds most_tours start root turned);
       above_start = above.above_start;
       above_turns = above.above_turns;
     }) (let one = ap length is.lone in omega (arith, one)) is.best.feasible is.best.costs bound_is many above.tours solved
@@ -102,7 +110,7 @@ found_solved s rounds most_tours start root bound cars turned closed bound_is =
     is = turned.stands
 
     above : HasTurnsAbove s most_tours start root.turns.items root.tree.branches root.best.cost
-    above = turns_above s rounds most_tours start root turned cars
+    above = turns_above s rounds most_tours start root (so_far s rounds most_tours start root turned) cars
 
     high : pos root.best.cost ≤ℤ bound_of_sheet is.branch.sheet
     high = subst (λ (b : Branch). pos root.best.cost ≤ℤ bound_of_sheet b.sheet) (root_branch s most_tours root is) closed
@@ -127,6 +135,23 @@ found_solved s rounds most_tours start root bound cars turned closed bound_is =
 
 -- ---- a search below the root
 
+-- What stands below the root is an answer, for whatever reason the search ended.
+pub found_begun : (Reason : Type 0) (s : Snapshot) (rounds most_tours : ℕ) (start : PriceSheet) (turns : List Turn) (x : Search)
+    → IsBegun s rounds most_tours start turns x → (bound : ℕ) → pos bound ≡ least_of x.best.cost x.tree.branches → Reason
+    → IsEnding Reason start.prices (bound_of_sheet start) s rounds most_tours x.best.plan x.best.cost bound (map twig_of x.tree.branches) turns
+found_begun Reason s rounds most_tours start turns x begun bound bound_is reason =
+    let above = begun.above in
+    let way = begun.searching.under_way in
+    found s rounds most_tours start turns x.tree.branches x.best.plan x.best.cost bound Reason (record {
+      sheet = above.sheet;
+      root_turns = above.root_turns;
+      few_turns = above.few_turns;
+      branches = way.tree.branches;
+      above_start = above.above_start;
+      above_turns = above.above_turns;
+    }) (let size = begun.searching.size in let few = begun.few in omega (arith, size, few)) way.best.feasible way.best.costs bound_is
+    (λ choice _. begun.many choice) above.tours reason
+
 module _ (s : Snapshot) (rounds most_tours : ℕ) (start : PriceSheet) (turns : List Turn) (x : Search) (ended : IsEnded s rounds most_tours start turns x) where
   abbrev tree : List Branch
   tree = x.tree.branches
@@ -138,17 +163,8 @@ module _ (s : Snapshot) (rounds most_tours : ℕ) (start : PriceSheet) (turns : 
       → IsReason s rounds most_tours x.best.cost bound (map twig_of x.tree.branches) why
       → IsFound start.prices (bound_of_sheet start) s rounds most_tours x.best.plan x.best.cost bound (map twig_of x.tree.branches) turns why
   found_ended bound why bound_is reason =
-      let above = ended.begun.above in
-      let way = ended.begun.searching.under_way in
-      found s rounds most_tours start turns x.tree.branches x.best.plan x.best.cost bound why (record {
-        sheet = above.sheet;
-        root_turns = above.root_turns;
-        few_turns = above.few_turns;
-        branches = way.tree.branches;
-        above_start = above.above_start;
-        above_turns = above.above_turns;
-      }) (let size = ended.begun.searching.size in let few = ended.begun.few in omega (arith, size, few)) way.best.feasible way.best.costs bound_is
-      (λ choice _. ended.begun.many choice) above.tours reason
+      found_begun (IsReason s rounds most_tours x.best.cost bound (map twig_of x.tree.branches) why) s rounds most_tours start turns x ended.begun bound
+      bound_is reason
 
   resting_at : (k : ℕ) → IsBelow x.best.cost x.tree.branches k → IsResting s x.best.cost (at_place x.tree.branches k)
   resting_at k below =
@@ -213,6 +229,7 @@ module _ (s : Snapshot) (rounds most_tours : ℕ) (start : PriceSheet) (turns : 
       (out_of_moves s most_tours x.best.cost bound car x.tree.branches why.place
       (stuck_all (root_place s ∷ []) x.tree.branches way.tree.resting why.rest) way.tree.priced way.tree.branches lt why.at.in_tree why.at.leaf
       why.at.below why.spent)
+  reason_is bound Told bound_is why = absurd why
 
 -- ---- the bound in 64 bits
 
@@ -228,17 +245,22 @@ natural_cast z cost few low high =
 
 -- ---- the answer
 
+-- what holds of the parts holds of the answer that is made of them
+pub answer_is : (P : List (List Stop) → (cost bound : ℕ) → List Twig → List Turn → StopReason → Type 0) (tree : List Branch) (best : Best)
+    (turns : List Turn) (why : StopReason) (f : Found) → IsAnswerOf tree best turns why f
+    → P best.plan best.cost f.stated.bound (map twig_of tree) turns why → P f.stated.plan f.stated.cost f.stated.bound f.tree.twigs f.turns f.why
+answer_is P tree best turns why f is h =
+    let a = subst (λ (p : List (List Stop)). P p best.cost f.stated.bound (map twig_of tree) turns why) (sym is.plan) h in
+    let b = subst (λ (n : ℕ). P f.stated.plan n f.stated.bound (map twig_of tree) turns why) (sym is.cost) a in
+    let c = subst (λ (ts : List Twig). P f.stated.plan f.stated.cost f.stated.bound ts turns why) (sym is.twigs) b in
+    let d = subst (λ (ts : List Turn). P f.stated.plan f.stated.cost f.stated.bound f.tree.twigs ts why) (sym is.turns_are) c in
+    subst (λ (w : StopReason). P f.stated.plan f.stated.cost f.stated.bound f.tree.twigs f.turns w) (sym is.why_is) d
+
 pub answer_found : (start : List ℤ) (least : ℤ) (s : Snapshot) (rounds most_tours : ℕ) (tree : List Branch) (best : Best) (turns : List Turn)
     (why : StopReason) (f : Found) → IsAnswerOf tree best turns why f
     → IsFound start least s rounds most_tours best.plan best.cost f.stated.bound (map twig_of tree) turns why
     → IsFound start least s rounds most_tours f.stated.plan f.stated.cost f.stated.bound f.tree.twigs f.turns f.why
-answer_found start least s rounds most_tours tree best turns why f is h =
-    let a = subst (λ (p : List (List Stop)). IsFound start least s rounds most_tours p best.cost f.stated.bound (map twig_of tree) turns why) (sym is.plan) h in
-    let b = subst (λ (n : ℕ). IsFound start least s rounds most_tours f.stated.plan n f.stated.bound (map twig_of tree) turns why) (sym is.cost) a in
-    let c = subst (λ (ts : List Twig). IsFound start least s rounds most_tours f.stated.plan f.stated.cost f.stated.bound ts turns why) (sym is.twigs) b in
-    let d = subst (λ (ts : List Turn). IsFound start least s rounds most_tours f.stated.plan f.stated.cost f.stated.bound f.tree.twigs ts why)
-    (sym is.turns_are) c in
-    subst (λ (w : StopReason). IsFound start least s rounds most_tours f.stated.plan f.stated.cost f.stated.bound f.tree.twigs f.turns w) (sym is.why_is) d
+answer_found start least s rounds most_tours = answer_is (IsFound start least s rounds most_tours)
 
 pub if_ok : {X E : Type 0} (r : Result X E) (P Q : X → Type 0) → ((x : X) → P x → Q x) → IfOk r P → IfOk r Q
 if_ok (Ok x) P Q f h = f x h

@@ -33,7 +33,7 @@ use Rattle.node_search.specs.Best.{IsBest}
 use Rattle.root_turns.specs.Dues.{IsTurnBelow}
 use Rattle.node_search.specs.Roots.{IsRoot, leaf_of_root}
 use Rattle.node_search.specs.Searches.{IsSplit}
-use Rattle.node_search.specs.Found.{HasTurnsAbove, IsBegun, IsCheapestOfTurns, IsKeptRoot, IsOpenRoot, IsTurned}
+use Rattle.node_search.specs.Found.{HasTurnsAbove, IsBegun, IsCheapestOfTurns, IsKeptRoot, IsOpenRoot, IsTurned, IsTurnedSoFar}
 use Rattle.node_search.proofs.RootTurns.{root_branch, root_node}
 
 -- ---- a choice
@@ -93,6 +93,42 @@ pub lone_stands : (P : Holding) (s : Snapshot) (b : Branch) → b.split ≡ None
 lone_stands P s b leaf h =
     (h, subst (λ (x : Option SplitAt). AllStand P (places_after (root_place s) (twig_at x b.sheet) []) []) (sym leaf) tt)
 
+module _ (s : Snapshot) (rounds most_tours : ℕ) (start : PriceSheet) (root : Root) (far : IsTurnedSoFar s rounds most_tours start root) where
+  abbrev stands : IsRoot s most_tours root
+  stands = far.stands
+
+  abbrev lone : Branch
+  lone = stands.branch
+
+  lone_is : leaf_of_root root ≡ lone
+  lone_is = root_branch s most_tours root stands
+
+  -- a sum that is not above the leaf's
+  at_least : (z : ℤ) → z ≤ℤ sum_of_sheet lone.sheet → AllInTree (IsAtLeast z) s root.tree.branches
+  at_least z le =
+      subst (AllInTree (IsAtLeast z) s) (sym stands.lone) (lone_stands (IsAtLeast z) s lone stands.leaf (of_leaf (z ≤ℤ sum_of_sheet lone.sheet) lone.split le))
+
+  pub branches_alone : AllInTree (IsBranchAt s most_tours) s root.tree.branches
+  branches_alone = subst (AllInTree (IsBranchAt s most_tours) s) (sym stands.lone) (lone_stands (IsBranchAt s most_tours) s lone stands.leaf stands.at)
+
+  pub turns_above : 1 ≤ car_count s → HasTurnsAbove s most_tours start root.turns.items root.tree.branches root.best.cost
+  turns_above cars =
+      record {
+        sheet = far.sheet;
+        root_turns = subst (λ (ps : List ℤ). AreRootTurns s most_tours ps root.turns.items) far.start_is stands.turns;
+        few_turns = stands.few_turns;
+        above_start = at_least (sum_of_sheet start) (subst (λ (a : Branch). sum_of_sheet start ≤ℤ sum_of_sheet a.sheet) lone_is far.rises);
+        above_turns = All-weaker (IsTurnBelow (sum_of_sheet lone.sheet)) (λ (turn : Turn). AllInTree (IsAtLeast (sum_of_turn turn)) s root.tree.branches)
+            (λ turn h. at_least (sum_of_turn turn) h) root.turns.items stands.takes;
+        tours = turns_cheapest s most_tours root stands cars;
+      }
+
+-- what stands after all turns stands after some
+pub so_far : (s : Snapshot) (rounds most_tours : ℕ) (start : PriceSheet) (root : Root) → IsTurned s rounds most_tours start root
+    → IsTurnedSoFar s rounds most_tours start root
+so_far s rounds most_tours start root turned =
+    record { stands = turned.stands; start_is = turned.start_is; sheet = turned.sheet; rises = turned.rises; few = turned.due.few }
+
 module _ (s : Snapshot) (rounds most_tours : ℕ) (start : PriceSheet) (root : Root) (turned : IsTurned s rounds most_tours start root) where
   abbrev is : IsRoot s most_tours root
   is = turned.stands
@@ -102,26 +138,6 @@ module _ (s : Snapshot) (rounds most_tours : ℕ) (start : PriceSheet) (root : R
 
   leaf_is : leaf_of_root root ≡ b
   leaf_is = root_branch s most_tours root is
-
-  -- a sum that is not above the leaf's
-  at_least : (z : ℤ) → z ≤ℤ sum_of_sheet b.sheet → AllInTree (IsAtLeast z) s root.tree.branches
-  at_least z le =
-      subst (AllInTree (IsAtLeast z) s) (sym is.lone) (lone_stands (IsAtLeast z) s b is.leaf (of_leaf (z ≤ℤ sum_of_sheet b.sheet) b.split le))
-
-  pub branches_alone : AllInTree (IsBranchAt s most_tours) s root.tree.branches
-  branches_alone = subst (AllInTree (IsBranchAt s most_tours) s) (sym is.lone) (lone_stands (IsBranchAt s most_tours) s b is.leaf is.at)
-
-  pub turns_above : 1 ≤ car_count s → HasTurnsAbove s most_tours start root.turns.items root.tree.branches root.best.cost
-  turns_above cars =
-      record {
-        sheet = turned.sheet;
-        root_turns = subst (λ (ps : List ℤ). AreRootTurns s most_tours ps root.turns.items) turned.start_is is.turns;
-        few_turns = is.few_turns;
-        above_start = at_least (sum_of_sheet start) (subst (λ (a : Branch). sum_of_sheet start ≤ℤ sum_of_sheet a.sheet) leaf_is turned.rises);
-        above_turns = All-weaker (IsTurnBelow (sum_of_sheet b.sheet)) (λ (turn : Turn). AllInTree (IsAtLeast (sum_of_turn turn)) s root.tree.branches)
-            (λ turn h. at_least (sum_of_turn turn) h) root.turns.items is.takes;
-        tours = turns_cheapest s most_tours root is cars;
-      }
 
   choice_many : HasChoice s → IsOpenRoot root → length root.turns.items ≡ min rounds 20
   choice_many choice is_open = turned.due.many (choice_open s (root_node s most_tours root is) choice) is_open
@@ -175,7 +191,8 @@ module _ (s : Snapshot) (rounds most_tours : ℕ) (start : PriceSheet) (root : R
             size = (let one = ap length tree in let one' = ap length is.lone in omega (arith, one, one'));
           };
           above = subst (HasTurnsAbove s most_tours start root.turns.items x.tree.branches) (sym cost)
-              (subst (λ (bs : List Branch). HasTurnsAbove s most_tours start root.turns.items bs root.best.cost) (sym tree) (turns_above some_cars));
+              (subst (λ (bs : List Branch). HasTurnsAbove s most_tours start root.turns.items bs root.best.cost) (sym tree)
+              (turns_above s rounds most_tours start root (so_far s rounds most_tours start root turned) some_cars));
           few = (let most = turned.due.few in omega (arith, most, done));
           many = λ choice. choice_many choice is_open;
         }

@@ -5,7 +5,7 @@ use Rattle.elevator_model.specs.Snapshot.{Snapshot, car_count, call_count}
 use Rattle.elevator_model.specs.Plans.{IsFeasiblePlan, plan_cost_of, tour_of}
 use Rattle.search_model.specs.declared.Turn.{Turn}
 use Rattle.search_model.specs.declared.StopReason.{StopReason}
-use Rattle.search_model.specs.declared.StopReason.TheVariants.{Solved, Rounds, Moves}
+use Rattle.search_model.specs.declared.StopReason.TheVariants.{Solved, Rounds, Moves, Told}
 use Rattle.search_model.specs.Nodes.{root_of}
 use Rattle.search_model.specs.Solving.{HasChoice, AreRootTurns, IsTourOfTurns, least_bound, sum_of_turn}
 use Rattle.search_tree.specs.declared.branches.Branch.{Branch}
@@ -38,6 +38,14 @@ pub record HasDueTurns (s : Snapshot) (rounds : ℕ) (root : Root) : Type 0 wher
   pub begun : IsOpenRoot root → 1 ≤ length root.turns.items
   pub single : AreSingle (call_count s) (root_of s) → IsOpenRoot root → IsSolvedIfUnspent root
   pub many : (AreSingle (call_count s) (root_of s) → ⊥) → IsOpenRoot root → length root.turns.items ≡ min rounds MOST_TURNS
+
+-- the root after some turns, in a search that started with these prices and worths
+pub record IsTurnedSoFar (s : Snapshot) (rounds most_tours : ℕ) (start : PriceSheet) (root : Root) : Type 0 where
+  pub stands : IsRoot s most_tours root
+  pub start_is : start_of_turns root.turns.items root.prices.items ≡ start.prices
+  pub sheet : IsSheetIn s (root_of s) start
+  pub rises : sum_of_sheet start ≤ℤ sum_of_sheet (leaf_of_root root).sheet
+  pub few : length root.turns.items ≤ rounds
 
 -- the root after its turns, in a search that started with these prices and worths
 pub record IsTurned (s : Snapshot) (rounds most_tours : ℕ) (start : PriceSheet) (root : Root) : Type 0 where
@@ -105,6 +113,7 @@ abbrev pub IsReasonOf : Snapshot → (most_tours : ℕ) → Search → StopReaso
 IsReasonOf s most_tours x Solved = pos x.best.cost ≤ℤ least_of x.best.cost x.tree.branches
 IsReasonOf s most_tours x (Rounds done) = AreRoundsDone s x done
 IsReasonOf s most_tours x (Moves car count) = IsCarSpent s most_tours x car count
+IsReasonOf s most_tours x Told = ⊥
 
 -- the answer of a search that ended with this tree, this plan and these turns
 pub record IsAnswerOf (tree : List Branch) (best : Best) (turns : List Turn) (why : StopReason) (f : Found) : Type 0 where

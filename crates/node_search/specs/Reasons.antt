@@ -1,7 +1,7 @@
 -- Why a search ended, by the state in which it did.
 use Rattle.std.specs.Prelude.{◌≡◌, ℕ, ◌⊎◌, pos, map}
 use Rattle.elevator_model.specs.Snapshot.{Snapshot}
-use Rattle.search_model.specs.declared.StopReason.TheVariants.{Solved}
+use Rattle.search_model.specs.declared.StopReason.TheVariants.{Solved, Told}
 use Rattle.search_tree.specs.Sheets.{PriceSheet}
 use Rattle.search_tree.specs.Branches.{twig_of}
 use Rattle.node_search.specs.declared.found.Found.{Found}
@@ -19,6 +19,6 @@ pub record HasLastState (s : Snapshot) (rounds most_tours : ℕ) (start : PriceS
   pub tree : f.tree.twigs ≡ map twig_of last.tree.branches
   pub reason : IsReasonOf s most_tours last f.why
 
--- it was solved at the root, or the state after the last round gives the reason
+-- it was solved at the root, or the state after the last round gives the reason, or it was told to stop
 abbrev pub HasReason : Snapshot → (rounds most_tours : ℕ) → PriceSheet → Found → Type 0
-HasReason s rounds most_tours start f = (f.why ≡ Solved) ⊎ HasLastState s rounds most_tours start f
+HasReason s rounds most_tours start f = (f.why ≡ Solved) ⊎ HasLastState s rounds most_tours start f ⊎ (f.why ≡ Told)

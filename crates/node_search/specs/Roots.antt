@@ -88,6 +88,12 @@ pub record IsEnough (most : ℕ) (root : Root) : Type 0 where
   pub few : length root.turns.items ≤ most
   pub due : bound_of_sheet (leaf_of_root root).sheet <ℤ pos root.best.cost → length root.turns.items ≡ most
 
+-- fewer turns were made than might be
+pub record IsTurning (s : Snapshot) (most most_tours : ℕ) (old new : Root) : Type 0 where
+  pub stands : IsRoot s most_tours new
+  pub turned : HasTurned old new
+  pub few : length new.turns.items ≤ most
+
 -- one turn was made, with these pricings
 pub record HasOneTurn (s : Snapshot) (most_tours : ℕ) (root : Root) : Type 0 where
   pub turn : Turn

@@ -137,6 +137,12 @@ pub record HasDoneRound (s : Snapshot) (old new : Search) : Type 0 where
 abbrev pub IsAtRest : Snapshot → Search → Type 0
 IsAtRest s x = (k : ℕ) → k < length x.tree.branches → IsLeft s x.best.cost (at_place x.tree.branches k)
 
+-- what rounds change, where at most this many may be done
+pub record HasGoneOn (s : Snapshot) (rounds : ℕ) (old new : Search) : Type 0 where
+  pub cheaper : new.best.cost ≤ old.best.cost
+  pub few : new.done ≤ rounds
+  pub sums : (z : ℤ) → AllInTree (IsAtLeast z) s old.tree.branches → AllInTree (IsAtLeast z) s new.tree.branches
+
 -- what all rounds change
 pub record HasRun (s : Snapshot) (rounds : ℕ) (old new : Search) : Type 0 where
   pub cheaper : new.best.cost ≤ old.best.cost

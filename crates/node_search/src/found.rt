@@ -1,13 +1,13 @@
 //! The whole search: turns at the root, rounds below it, and what is answered at the end.
 
 ghost use Rattle.std.specs.Prelude.{◌≡◌, ◌<◌, ◌≤◌, ◌^◌, ◌⊎◌, ℕ, ℤ, pos, ◌≤ℤ◌, ◌<ℤ◌, All, IfOk, OnOk};
-ghost use Rattle.std.specs.Prelude.{MatchOption, length, None, Some, IfSome};
+ghost use Rattle.std.specs.Prelude.{MatchOption, false, length, true, None, Some, IfSome};
 ghost use Rattle.elevator_model.specs.Snapshot.{Snapshot as SnapshotOf, IsAccepted, call_count, car_count};
 ghost use Rattle.elevator_model.specs.Plans.{IsFeasiblePlan};
 ghost use Rattle.search_model.specs.Sums.{rounded_up};
 ghost use Rattle.search_model.specs.Nodes.{root_of};
-ghost use Rattle.search_model.specs.declared.StopReason.TheVariants.{Solved};
-ghost use Rattle.search_model.specs.Solving.{IsFound};
+ghost use Rattle.search_model.specs.declared.StopReason.TheVariants.{Solved, Told};
+ghost use Rattle.search_model.specs.Solving.{IsFound, IsSearchAnswer, IsToldAnswer};
 ghost use Rattle.search_tree.specs.Sheets.{IsSizedTwig, PriceSheet, sum_of_sheet};
 ghost use Rattle.search_tree.specs.Branches.{at_place};
 ghost use Rattle.search_tree.specs.Standing.{IsSheetIn, bound_of_sheet};
@@ -16,7 +16,7 @@ ghost use Rattle.node_search.specs.Best.{IsBest};
 ghost use Rattle.node_search.specs.Roots.{IsRoot};
 ghost use Rattle.node_search.specs.Searches.{IsSplit};
 ghost use Rattle.node_search.specs.Found.{IsAnswerOf, IsBegun, IsBelow, IsEnded, IsKeptRoot, IsOpenRoot};
-ghost use Rattle.node_search.specs.Found.{IsReasonOf, IsTurned, least_of};
+ghost use Rattle.node_search.specs.Found.{HasDueTurns, IsReasonOf, IsTurned, IsTurnedSoFar, least_of};
 ghost use Rattle.node_search.specs.Reasons.{HasLastState, HasReason};
 
 use crate::best::Best;
@@ -30,7 +30,7 @@ use byte_streams::{Gate, Progress};
 use call_state::Snapshot;
 use elevator_model::{MOST_CALLS, Plan};
 use pricing_rounds::{PricingCrew, desks_for};
-use search_model::{Items, Limits, Stated, StopReason, Turn};
+use search_model::{Interruption, Items, Limits, Stated, StopReason, Turn};
 use search_tree::{Branch, SearchTree, Sheet, first_choice};
 use std::alloc::{AllocError, Global};
 use work_fan::Runtime;
@@ -47,11 +47,21 @@ pub struct Found {
     pub why: StopReason,
 }
 
+/// The root after its turns, or after some of them.
+#[derive(Drop)]
+struct AfterTurns<'a> {
+    root: Root<'a>,
+    /// Whether the turns were told to stop.
+    is_told: bool,
+}
+
 /// A search below the root, and the turns at the root before it.
 #[derive(Drop)]
 struct Begun<'a> {
     search: Search<'a>,
     turns: Vec<Turn>,
+    /// Whether the rounds were told to stop.
+    is_told: bool,
 }
 
 /// The car that reached the limit in a leaf's last pricing, in the first such leaf whose bound is below the
@@ -171,7 +181,11 @@ fn begin<'a, P: Pricer>(
     split_where_due(alloc, &mut tree, turns.len(), calls)?;
     let done = turns.len() as u64;
     let search = Search { tree, best, done };
-    Ok(Begun { search, turns })
+    Ok(Begun {
+        search,
+        turns,
+        is_told: false,
+    })
 }
 
 /// The rounds below a root that is open after its turns. It fails only where there is no memory left.
@@ -187,14 +201,29 @@ fn go_on<'a, P: Pricer, C: PricingCrew<P>, G: Gate>(
         × IsTurned (P.snapshot pricer.now) limits.rounds limits.most_tours start root }
     requires open_yet { IsOpenRoot root }
     requires desks { Serving (P.owns pricer.now) desks.old }
-    ensures { IfOk result (λ begun. (start : PriceSheet)
+    ensures begun { IfOk result (λ begun. (start : PriceSheet)
+        → IsTurned (P.snapshot pricer.now) limits.rounds limits.most_tours start
+        root.entry → IsBegun (P.snapshot pricer.now) limits.rounds limits.most_tours start
+        begun.turns.items begun.search) }
+    ensures ended { IfOk result (λ begun. begun.is_told ≡ false → (start : PriceSheet)
         → IsTurned (P.snapshot pricer.now) limits.rounds limits.most_tours start
         root.entry → IsEnded (P.snapshot pricer.now) limits.rounds limits.most_tours start
         begun.turns.items begun.search) }
+    ensures goes_on { G.never_stops runtime.now.gate.now
+        → IfOk result (λ begun. begun.is_told ≡ false) }
 {
-    let Begun { mut search, turns } = begin(runtime.alloc, pricer, root, limits)?;
-    search.run(runtime, pricer, limits.rounds(), limits.most_tours(), desks)?;
-    Ok(Begun { search, turns })
+    let Begun {
+        mut search,
+        turns,
+        ..
+    } = begin(runtime.alloc, pricer, root, limits)?;
+    let ended = search.run(runtime, pricer, limits.rounds(), limits.most_tours(), desks);
+    let is_told = Interruption::was_told(ended)?;
+    Ok(Begun {
+        search,
+        turns,
+        is_told,
+    })
 }
 
 /// The answer of a search whose rounds have ended. It fails only where there is no memory left.
@@ -218,7 +247,7 @@ fn end<P: Pricer>(
         → HasLastState (P.snapshot pricer.now) limits.rounds limits.most_tours start f) }
     ensures sized { IfOk result (λ f. All IsSizedTwig f.tree.twigs) }
 {
-    let Begun { search, turns } = begun;
+    let Begun { search, turns, .. } = begun;
     let calls = search.best.pool.snapshot().calls().len();
     let why = search.reason(calls, limits.most_tours());
     let Search { tree, best, .. } = search;
@@ -252,7 +281,58 @@ fn close<P: Pricer>(
     answer(alloc, tree, best, turns, StopReason::Solved)
 }
 
-/// The root after the turns that are due. It fails only where there is no memory left.
+/// The answer of a search that was told to stop before its turns were done. It fails only where there is no
+/// memory left.
+fn stop_turning<P: Pricer>(
+    alloc: Global,
+    pricer: &P,
+    root: Root,
+    limits: Limits,
+) -> Result<Found, AllocError>
+    requires accepted { IsAccepted (P.snapshot pricer.now) }
+    requires turned { (start : PriceSheet) × (pos 0 ≤ℤ sum_of_sheet start)
+        × IsTurnedSoFar (P.snapshot pricer.now) limits.rounds limits.most_tours start root }
+    ensures found { IfOk result (λ f. (start : PriceSheet)
+        → IsTurnedSoFar (P.snapshot pricer.now) limits.rounds limits.most_tours start
+        root.entry → IsToldAnswer start.prices (rounded_up (sum_of_sheet start)) (P.snapshot pricer.now)
+        limits.rounds limits.most_tours f.stated.plan f.stated.cost f.stated.bound f.tree.twigs f.turns) }
+    ensures why { IfOk result (λ f. f.why ≡ Told) }
+    ensures sized { IfOk result (λ f. All IsSizedTwig f.tree.twigs) }
+{
+    let Root {
+        tree,
+        best,
+        turns,
+        ..
+    } = root;
+    answer(alloc, tree, best, turns, StopReason::Told)
+}
+
+/// The answer of a search whose rounds were told to stop. It fails only where there is no memory left.
+fn stop<P: Pricer>(
+    alloc: Global,
+    pricer: &P,
+    begun: Begun,
+    limits: Limits,
+) -> Result<Found, AllocError>
+    requires begun { (start : PriceSheet) × (pos 0 ≤ℤ sum_of_sheet start)
+        × IsBegun (P.snapshot pricer.now) limits.rounds limits.most_tours start
+        begun.turns.items begun.search }
+    ensures found { IfOk result (λ f. (start : PriceSheet)
+        → IsBegun (P.snapshot pricer.now) limits.rounds limits.most_tours start
+        begun.entry.turns.items begun.entry.search
+        → IsToldAnswer start.prices (rounded_up (sum_of_sheet start)) (P.snapshot pricer.now)
+        limits.rounds limits.most_tours f.stated.plan f.stated.cost f.stated.bound f.tree.twigs f.turns) }
+    ensures why { IfOk result (λ f. f.why ≡ Told) }
+    ensures sized { IfOk result (λ f. All IsSizedTwig f.tree.twigs) }
+{
+    let Begun { search, turns, .. } = begun;
+    let Search { tree, best, .. } = search;
+    answer(alloc, tree, best, turns, StopReason::Told)
+}
+
+/// The root after the turns that are due, or after those that were made before they were told to stop. It
+/// fails only where there is no memory left.
 fn turned<'a, P: Pricer, C: PricingCrew<P>, G: Gate>(
     runtime: &Runtime<C, G>,
     snapshot: &'a Snapshot,
@@ -261,20 +341,26 @@ fn turned<'a, P: Pricer, C: PricingCrew<P>, G: Gate>(
     sheet: Sheet,
     limits: Limits,
     desks: &mut [P::Desk],
-) -> Result<Root<'a>, AllocError>
+) -> Result<AfterTurns<'a>, AllocError>
     requires snapshot { P.snapshot pricer.now ≡ snapshot.now }
     requires start { IsFeasiblePlan snapshot.now start }
     requires sheet { IsSheetIn snapshot.now (root_of snapshot.now) sheet }
     requires desks { Serving (P.owns pricer.now) desks.old }
-    ensures turned { IfOk result (IsTurned (P.snapshot pricer.now) limits.rounds limits.most_tours sheet) }
+    ensures so_far { IfOk result (λ turned. IsTurnedSoFar (P.snapshot pricer.now) limits.rounds
+        limits.most_tours sheet turned.root) }
+    ensures due { IfOk result (λ turned. turned.is_told ≡ false
+        → HasDueTurns (P.snapshot pricer.now) limits.rounds turned.root) }
+    ensures goes_on { G.never_stops runtime.now.gate.now
+        → IfOk result (λ turned. turned.is_told ≡ false) }
     ensures accepted { IsAccepted (P.snapshot pricer.now) }
-    ensures desks { IfOk result (λ _. Serving (P.owns pricer.now) desks.new) }
+    ensures desks { IfOk result (λ turned. turned.is_told ≡ false → Serving (P.owns pricer.now) desks.new) }
 {
     prove!(snapshot.calls().len() <= MOST_CALLS);
     let mut root = Root::new(runtime.alloc, snapshot, start, sheet)?;
     runtime.gate.tell(Progress::Begins(root.state()));
-    root.turn_as_due(runtime, pricer, limits.rounds(), limits.most_tours(), desks)?;
-    Ok(root)
+    let ended = root.turn_as_due(runtime, pricer, limits.rounds(), limits.most_tours(), desks);
+    let is_told = Interruption::was_told(ended)?;
+    Ok(AfterTurns { root, is_told })
 }
 
 /// Searches as `find_plan` does, with one worker for each desk.
@@ -292,18 +378,30 @@ fn find_at<P: Pricer, C: PricingCrew<P>, G: Gate>(
     requires sheet { IsSheetIn snapshot.now (root_of snapshot.now) sheet }
     requires sum { pos 0 ≤ℤ sum_of_sheet sheet }
     requires desks { Serving (P.owns pricer.now) desks.old }
-    ensures found { IfOk result (λ f. IsFound sheet.prices (rounded_up (sum_of_sheet sheet)) snapshot.now
-        limits.rounds limits.most_tours f.stated.plan f.stated.cost f.stated.bound f.tree.twigs f.turns f.why) }
+    ensures answer { IfOk result (λ f. IsSearchAnswer sheet.prices (rounded_up (sum_of_sheet sheet))
+        snapshot.now limits.rounds limits.most_tours f.stated.plan f.stated.cost f.stated.bound f.tree.twigs
+        f.turns f.why) }
+    ensures goes_on { G.never_stops runtime.now.gate.now
+        → IfOk result (λ f. f.why ≡ Told → ⊥) }
     ensures why { IfOk result (HasReason snapshot.now limits.rounds limits.most_tours sheet) }
     ensures sized { IfOk result (λ f. All IsSizedTwig f.tree.twigs) }
 {
-    let root = turned(runtime, snapshot, pricer, start, sheet, limits, desks)?;
+    let AfterTurns { root, is_told } = turned(
+        runtime, snapshot, pricer, start, sheet, limits, desks,
+    )?;
     if !root.is_open() {
         runtime.gate.tell(Progress::Ends(root.state()));
         return close(runtime.alloc, pricer, root, limits);
     }
+    if is_told {
+        runtime.gate.tell(Progress::Ends(root.state()));
+        return stop_turning(runtime.alloc, pricer, root, limits);
+    }
     let begun = go_on(runtime, pricer, root, limits, desks)?;
     runtime.gate.tell(Progress::Ends(begun.search.state()));
+    if begun.is_told {
+        return stop(runtime.alloc, pricer, begun, limits);
+    }
     end(runtime.alloc, pricer, begun, limits)
 }
 
@@ -328,8 +426,11 @@ pub fn find_plan<P: Pricer, C: PricingCrew<P>, G: Gate>(
     requires start { IsFeasiblePlan snapshot.now start }
     requires sheet { IsSheetIn snapshot.now (root_of snapshot.now) sheet }
     requires sum { pos 0 ≤ℤ sum_of_sheet sheet }
-    ensures found { IfOk result (λ f. IsFound sheet.prices (rounded_up (sum_of_sheet sheet)) snapshot.now
-        limits.rounds limits.most_tours f.stated.plan f.stated.cost f.stated.bound f.tree.twigs f.turns f.why) }
+    ensures answer { IfOk result (λ f. IsSearchAnswer sheet.prices (rounded_up (sum_of_sheet sheet))
+        snapshot.now limits.rounds limits.most_tours f.stated.plan f.stated.cost f.stated.bound f.tree.twigs
+        f.turns f.why) }
+    ensures goes_on { G.never_stops runtime.now.gate.now
+        → IfOk result (λ f. f.why ≡ Told → ⊥) }
     ensures why { IfOk result (HasReason snapshot.now limits.rounds limits.most_tours sheet) }
     ensures sized { IfOk result (λ f. All IsSizedTwig f.tree.twigs) }
 {

@@ -1,9 +1,10 @@
 //! Turns at the root.
 
-ghost use Rattle.std.specs.Prelude.{◌≡◌, ◌<◌, ◌≤◌, ◌+◌, ◌^◌, ℕ, pos, int_lt, IfOk, OnOk, length, slice_set};
+ghost use Rattle.std.specs.Prelude.{◌≡◌, ◌<◌, ◌≤◌, ◌+◌, ◌^◌, ℕ, pos, int_lt, IfOk, IsErrOf, IsOkUnless, OnOk, length, slice_set};
 ghost use Rattle.std.specs.Prelude.{[], ◌∷◌, ◌++◌};
 ghost use Rattle.elevator_model.specs.Snapshot.{call_count};
 ghost use Rattle.elevator_model.specs.Plans.{IsFeasiblePlan};
+ghost use Rattle.search_model.specs.declared.interruptions.Interruption.TheVariants.{OutOfMemory, Told};
 ghost use Rattle.search_model.specs.Nodes.{IsNodeOf, root_of};
 ghost use Rattle.search_tree.specs.Branches.{AreSingle, at_place, leaf_at, noted};
 ghost use Rattle.search_tree.specs.Standing.{bound_of_sheet};
@@ -19,7 +20,7 @@ use elevator_model::Plan;
 use price_scale::Price;
 use pricing_rounds::{PricingCrew, Task};
 use root_turns::{greatest_of, price_turn, prices_after, step_after};
-use search_model::{Items, Turn, TurnOf};
+use search_model::{Interruption, Items, Turn, TurnOf};
 use search_tree::{SearchTree, Sheet, first_choice};
 use std::alloc::{AllocError, Global};
 use std::mem::replace;
@@ -62,7 +63,7 @@ impl<'a> Root<'a> {
     ghost use Rattle.elevator_model.specs.Snapshot.{IsAccepted};
     ghost use Rattle.search_tree.specs.Answers.{AreAnswersIn};
     ghost use Rattle.node_search.specs.Roots.{HasOneTurn, HasTakenIn, HasTurned, IsEnough, IsNewRoot, IsRoot};
-    ghost use Rattle.node_search.specs.Roots.{IsSolvedIfUnspent};
+    ghost use Rattle.node_search.specs.Roots.{IsSolvedIfUnspent, IsTurning};
     ghost use Rattle.root_turns.specs.Dues.{turn_with};
 
     /// The root with these prices and worths, before its first turn. It fails only where there is no memory
@@ -99,20 +100,23 @@ impl<'a> Root<'a> {
         self.tree.branches()[0].sheet.bound() < i128::from(self.best.cost)
     }
 
-    /// The pricings of all cars at the present prices. It fails only where there is no memory left.
+    /// The pricings of all cars at the present prices. It fails only where there is no memory left, or where it
+    /// was told to stop.
     fn price<P: Pricer, C: PricingCrew<P>, G: Gate>(
         &self,
         runtime: &Runtime<C, G>,
         pricer: &P,
         most_tours: u64,
         desks: &mut [P::Desk],
-    ) -> Result<Vec<TurnOf>, AllocError>
+    ) -> Result<Vec<TurnOf>, Interruption>
         requires accepted { IsAccepted (P.snapshot pricer.now) }
         requires root { IsRoot (P.snapshot pricer.now) most_tours self.now }
         requires most_tours { (1 ≤ most_tours) × (most_tours ≤ 10 ^ 18) }
         requires desks { Serving (P.owns pricer.now) desks.old }
         ensures answers { IfOk result (λ cars. AreAnswersIn (P.snapshot pricer.now) most_tours
             (root_of (P.snapshot pricer.now)) self.now.prices.items cars.items) }
+        ensures goes_on { G.never_stops runtime.now.gate.now
+            → IsOkUnless result OutOfMemory }
         ensures desks { Serving (P.owns pricer.now) desks.new }
     {
         let cars = self.best.pool.snapshot().building().cars().len() as u32;
@@ -193,14 +197,15 @@ impl<'a> Root<'a> {
         Ok(())
     }
 
-    /// One turn: the pricings of all cars at the present prices. It fails only where there is no memory left.
+    /// One turn: the pricings of all cars at the present prices. It fails only where there is no memory left,
+    /// or where it was told to stop.
     fn turn<P: Pricer, C: PricingCrew<P>, G: Gate>(
         &mut self,
         runtime: &Runtime<C, G>,
         pricer: &P,
         most_tours: u64,
         desks: &mut [P::Desk],
-    ) -> Result<(), AllocError>
+    ) -> Result<(), Interruption>
         requires accepted { IsAccepted (P.snapshot pricer.now) }
         requires root { IsRoot (P.snapshot pricer.now) most_tours self.old }
         requires turns { length self.old.turns.items < MOST_TURNS }
@@ -212,6 +217,9 @@ impl<'a> Root<'a> {
             (length self.new.turns.items ≡ length self.old.turns.items + 1) }
         ensures first { OnOk result (self.old.turns.items ≡ []
             → HasOneTurn (P.snapshot pricer.now) most_tours self.new) }
+        ensures told { IsErrOf result Told → self.new ≡ self.old }
+        ensures goes_on { G.never_stops runtime.now.gate.now
+            → IsOkUnless result OutOfMemory }
         ensures desks { OnOk result (Serving (P.owns pricer.now) desks.new) }
     {
         let cars = self.price(runtime, pricer, most_tours, desks)?;
@@ -220,7 +228,8 @@ impl<'a> Root<'a> {
         Ok(())
     }
 
-    /// Turns until there are this many or the root is not open. It fails only where there is no memory left.
+    /// Turns until there are this many or the root is not open. It fails only where there is no memory
+    /// left, or where it was told to stop.
     pub(crate) fn turn_until<P: Pricer, C: PricingCrew<P>, G: Gate>(
         &mut self,
         runtime: &Runtime<C, G>,
@@ -228,7 +237,7 @@ impl<'a> Root<'a> {
         most_tours: u64,
         most: usize,
         desks: &mut [P::Desk],
-    ) -> Result<(), AllocError>
+    ) -> Result<(), Interruption>
         requires accepted { IsAccepted (P.snapshot pricer.now) }
         requires root { IsRoot (P.snapshot pricer.now) most_tours self.old }
         requires most { length self.old.turns.items ≤ most }
@@ -238,6 +247,10 @@ impl<'a> Root<'a> {
         ensures root { OnOk result (IsRoot (P.snapshot pricer.now) most_tours self.new) }
         ensures turned { OnOk result (HasTurned self.old self.new) }
         ensures enough { OnOk result (IsEnough most self.new) }
+        ensures told { IsErrOf result Told
+            → IsTurning (P.snapshot pricer.now) most most_tours self.old self.new }
+        ensures goes_on { G.never_stops runtime.now.gate.now
+            → IsOkUnless result OutOfMemory }
         ensures desks { OnOk result (Serving (P.owns pricer.now) desks.new) }
     {
         for _turn in self.turns.len()..most {
@@ -276,14 +289,15 @@ impl<'a> Root<'a> {
     }
 
     /// The only turn of a root in which each call has one car: where no car reached the limit, its tours make
-    /// a plan that costs no more than the leaf's bound. It fails only where there is no memory left.
+    /// a plan that costs no more than the leaf's bound. It fails only where there is no memory left, or where it was told
+    /// to stop.
     pub(crate) fn turn_once<P: Pricer, C: PricingCrew<P>, G: Gate>(
         &mut self,
         runtime: &Runtime<C, G>,
         pricer: &P,
         most_tours: u64,
         desks: &mut [P::Desk],
-    ) -> Result<(), AllocError>
+    ) -> Result<(), Interruption>
         requires accepted { IsAccepted (P.snapshot pricer.now) }
         requires root { IsRoot (P.snapshot pricer.now) most_tours self.old }
         requires single { AreSingle (call_count (P.snapshot pricer.now)) (root_of (P.snapshot pricer.now)) }
@@ -294,6 +308,9 @@ impl<'a> Root<'a> {
         ensures turned { OnOk result (HasTurned self.old self.new) }
         ensures turns { OnOk result (length self.new.turns.items ≡ 1) }
         ensures solved { OnOk result (IsSolvedIfUnspent self.new) }
+        ensures told { IsErrOf result Told → self.new ≡ self.old }
+        ensures goes_on { G.never_stops runtime.now.gate.now
+            → IsOkUnless result OutOfMemory }
         ensures desks { OnOk result (Serving (P.owns pricer.now) desks.new) }
     {
         self.turn(runtime, pricer, most_tours, desks)?;
@@ -302,7 +319,8 @@ impl<'a> Root<'a> {
     }
 
     /// The turns that are due: where some call has two cars, as many as there may be rounds and 20 at most,
-    /// or until the root is not open; else one where it is open. It fails only where there is no memory left.
+    /// or until the root is not open; else one where it is open. It fails only where there is no memory
+    /// left, or where it was told to stop.
     pub(crate) fn turn_as_due<P: Pricer, C: PricingCrew<P>, G: Gate>(
         &mut self,
         runtime: &Runtime<C, G>,
@@ -310,7 +328,7 @@ impl<'a> Root<'a> {
         rounds: u64,
         most_tours: u64,
         desks: &mut [P::Desk],
-    ) -> Result<(), AllocError>
+    ) -> Result<(), Interruption>
         requires accepted { IsAccepted (P.snapshot pricer.now) }
         requires root { IsRoot (P.snapshot pricer.now) most_tours self.old }
         requires turns { self.old.turns.items ≡ [] }
@@ -320,6 +338,10 @@ impl<'a> Root<'a> {
         ensures root { OnOk result (IsRoot (P.snapshot pricer.now) most_tours self.new) }
         ensures turned { OnOk result (HasTurned self.old self.new) }
         ensures due { OnOk result (HasDueTurns (P.snapshot pricer.now) rounds self.new) }
+        ensures told { IsErrOf result Told
+            → IsTurning (P.snapshot pricer.now) rounds most_tours self.old self.new }
+        ensures goes_on { G.never_stops runtime.now.gate.now
+            → IsOkUnless result OutOfMemory }
         ensures desks { OnOk result (Serving (P.owns pricer.now) desks.new) }
     {
         let calls = self.prices.len();

@@ -1,10 +1,11 @@
 //! One round: which leaves it prices, at which prices, and what is made of the answers.
 
-ghost use Rattle.std.specs.Prelude.{◌≡◌, ◌<◌, ◌≤◌, ◌^◌, All, IfOk, OnOk, length, true, false};
+ghost use Rattle.std.specs.Prelude.{◌≡◌, ◌<◌, ◌≤◌, ◌^◌, All, IfOk, IsErrOf, IsOkUnless, OnOk, length, true, false};
 ghost use Rattle.elevator_model.specs.Snapshot.{IsAccepted, car_count};
+ghost use Rattle.search_model.specs.declared.interruptions.Interruption.TheVariants.{OutOfMemory, Told};
 ghost use Rattle.work_fan.specs.Work.{Serving};
 ghost use Rattle.node_search.specs.Searches.{ArePriced, AreTaken, AreTasksFor, HasAdvanced, HasDoneRound};
-ghost use Rattle.node_search.specs.Searches.{HasRun, IsAtRest, IsPricedFrom, IsSearching, IsUnderWay};
+ghost use Rattle.node_search.specs.Searches.{HasGoneOn, HasRun, IsAtRest, IsPricedFrom, IsSearching, IsUnderWay};
 
 use crate::choosing::chosen;
 use crate::search::Search;
@@ -13,7 +14,7 @@ use assign_branch::Pricer;
 use byte_streams::{Gate, Progress};
 use price_scale::Price;
 use pricing_rounds::{PricingCrew, Task, price_nodes};
-use search_model::TurnOf;
+use search_model::{Interruption, TurnOf};
 use std::alloc::{AllocError, Global};
 use work_fan::Runtime;
 
@@ -86,7 +87,7 @@ impl<'a> Search<'a> {
     }
 
     /// Prices every car in each of these leaves, with one worker for each desk. It fails only where there is
-    /// no memory left.
+    /// no memory left, or where it was told to stop.
     fn price<P: Pricer, C: PricingCrew<P>, G: Gate>(
         &self,
         runtime: &Runtime<C, G>,
@@ -94,7 +95,7 @@ impl<'a> Search<'a> {
         most_tours: u64,
         chosen: &[Chosen],
         desks: &mut [P::Desk],
-    ) -> Result<Vec<TurnOf>, AllocError>
+    ) -> Result<Vec<TurnOf>, Interruption>
         requires accepted { IsAccepted (P.snapshot pricer.now) }
         requires way { IsUnderWay (P.snapshot pricer.now) most_tours self.now }
         requires taken { AreTaken (P.snapshot pricer.now) self.now chosen.now }
@@ -102,6 +103,8 @@ impl<'a> Search<'a> {
         requires desks { Serving (P.owns pricer.now) desks.old }
         ensures priced { IfOk result
             (λ answers. ArePriced (P.snapshot pricer.now) most_tours self.now chosen.now answers.items) }
+        ensures goes_on { G.never_stops runtime.now.gate.now
+            → IsOkUnless result OutOfMemory }
         ensures desks { All (P.owns pricer.now) desks.new }
     {
         let cars = self.best.pool.snapshot().building().cars().len() as u32;
@@ -139,14 +142,15 @@ impl<'a> Search<'a> {
     }
 
     /// Prices up to four leaves and takes in what was answered. False, and all is as before, exactly where no
-    /// leaf may be priced any more. It fails only where there is no memory left.
+    /// leaf may be priced any more. It fails only where there is no memory left, or where it was told to stop,
+    /// and then all is as before.
     fn round<P: Pricer, C: PricingCrew<P>, G: Gate>(
         &mut self,
         runtime: &Runtime<C, G>,
         pricer: &P,
         most_tours: u64,
         desks: &mut [P::Desk],
-    ) -> Result<bool, AllocError>
+    ) -> Result<bool, Interruption>
         requires accepted { IsAccepted (P.snapshot pricer.now) }
         requires searching { IsSearching (P.snapshot pricer.now) most_tours self.old }
         requires most_tours { (1 ≤ most_tours) × (most_tours ≤ 10 ^ 18) }
@@ -159,6 +163,9 @@ impl<'a> Search<'a> {
             (λ more. more ≡ true → IsAtRest (P.snapshot pricer.now) self.old → ⊥) }
         ensures rest { IfOk result (λ more. more ≡ false → IsAtRest (P.snapshot pricer.now) self.new) }
         ensures same { IfOk result (λ more. more ≡ false → self.new ≡ self.old) }
+        ensures told { IsErrOf result Told → self.new ≡ self.old }
+        ensures goes_on { G.never_stops runtime.now.gate.now
+            → IsOkUnless result OutOfMemory }
         ensures desks { All (P.owns pricer.now) desks.new }
     {
         let chosen = self.choose(runtime.alloc)?;
@@ -177,7 +184,7 @@ impl<'a> Search<'a> {
     }
 
     /// Rounds until this many were done or no leaf may be priced any more. It fails only where there is no
-    /// memory left.
+    /// memory left, or where they were told to stop.
     pub(crate) fn run<P: Pricer, C: PricingCrew<P>, G: Gate>(
         &mut self,
         runtime: &Runtime<C, G>,
@@ -185,7 +192,7 @@ impl<'a> Search<'a> {
         rounds: u64,
         most_tours: u64,
         desks: &mut [P::Desk],
-    ) -> Result<(), AllocError>
+    ) -> Result<(), Interruption>
         requires accepted { IsAccepted (P.snapshot pricer.now) }
         requires searching { IsSearching (P.snapshot pricer.now) most_tours self.old }
         requires most_tours { (1 ≤ most_tours) × (most_tours ≤ 10 ^ 18) }
@@ -193,6 +200,10 @@ impl<'a> Search<'a> {
         requires desks { Serving (P.owns pricer.now) desks.old }
         ensures searching { OnOk result (IsSearching (P.snapshot pricer.now) most_tours self.new) }
         ensures run { OnOk result (HasRun (P.snapshot pricer.now) rounds self.old self.new) }
+        ensures told { IsErrOf result Told → IsSearching (P.snapshot pricer.now) most_tours self.new
+            × HasGoneOn (P.snapshot pricer.now) rounds self.old self.new }
+        ensures goes_on { G.never_stops runtime.now.gate.now
+            → IsOkUnless result OutOfMemory }
         ensures desks { All (P.owns pricer.now) desks.new }
     {
         while self.done < rounds {

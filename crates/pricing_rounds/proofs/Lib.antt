@@ -1,2 +1,3 @@
 pub mod DrawingLemmas
 pub mod RoundLemmas
+pub mod Interruptions

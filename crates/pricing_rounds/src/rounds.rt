@@ -1,16 +1,18 @@
 //! A round of pricings, shared by workers.
 
-ghost use Rattle.std.specs.Prelude.{◌≡◌, ◌*◌, ◌≤◌, ◌^◌, All, IfOk, length};
+ghost use Rattle.std.specs.Prelude.{◌≡◌, ◌*◌, ◌≤◌, ◌^◌, All, IfOk, IsOkUnless, length};
 ghost use Rattle.elevator_model.specs.Snapshot.{IsAccepted, car_count};
+ghost use Rattle.search_model.specs.declared.interruptions.Interruption.TheVariants.{OutOfMemory};
 ghost use Rattle.work_fan.specs.Work.{Serving};
 ghost use Rattle.pricing_rounds.specs.Rounds.{AreAnswersOf, IsRound, IsTaskOf};
 
 use crate::crews::PricingCrew;
 use crate::drawing::{drawing_order, in_places};
+use crate::stopping::all_done;
 use crate::tasks::Task;
 use assign_branch::Pricer;
 use byte_streams::{Gate, Progress};
-use search_model::TurnOf;
+use search_model::{Interruption, TurnOf};
 use std::alloc::{AllocError, Global};
 use work_fan::{Jobs, Runtime};
 
@@ -29,25 +31,36 @@ pub struct Round<'a, P: Pricer> {
 }
 
 impl<'a, P: Pricer> Jobs for Round<'a, P> {
-    ghost use Rattle.std.specs.Prelude.{◌*◌, length, slice_index};
+    ghost use Rattle.std.specs.Prelude.{◌*◌, IfSome, IsSome, length, slice_index};
     ghost use Rattle.pricing_rounds.specs.Rounds.{IsAnswerAt};
 
     type Desk = P::Desk;
 
-    type Answer = TurnOf;
+    /// None of a pricing that was told to stop.
+    type Answer = Option<TurnOf>;
 
     ghost number = { λ it. length it.tasks.now * it.cars };
 
     ghost serves = { λ it desk. P.owns it.pricer.now desk };
 
-    ghost is_right = { λ it k answer. IsAnswerAt (P.snapshot it.pricer.now) it.most_tours
-        it.tasks.now it.cars (slice_index it.order.now k) answer };
+    ghost is_right = { λ it k answer. IfSome answer (IsAnswerAt (P.snapshot it.pricer.now) it.most_tours
+        it.tasks.now it.cars (slice_index it.order.now k)) };
+
+    ghost is_done = { λ _ answer. IsSome answer };
 
     fn count(&self) -> u32 {
         self.tasks.len() as u32 * self.cars
     }
 
-    fn work(&self, k: u32, desk: &mut P::Desk) -> Result<TurnOf, AllocError> {
+    fn work(
+        &self,
+        k: u32,
+        may_go_on: bool,
+        desk: &mut P::Desk,
+    ) -> Result<Option<TurnOf>, AllocError> {
+        if !may_go_on {
+            return Ok(None);
+        }
         let pricing = self.order[k as usize];
         let task = self.tasks[(pricing / self.cars) as usize];
         let car = pricing % self.cars;
@@ -55,7 +68,7 @@ impl<'a, P: Pricer> Jobs for Round<'a, P> {
             .pricer
             .price(car, task.node, task.prices, self.most_tours, desk);
         let tour = self.pricer.tour(self.alloc, desk)?;
-        Ok(TurnOf { priced, tour })
+        Ok(Some(TurnOf { priced, tour }))
     }
 }
 
@@ -75,7 +88,9 @@ fn visits_of(priced: &[TurnOf]) -> u64 {
 /// answers. It only says which pricings are drawn first, and may be of any length.
 ///
 /// It needs at most four tasks and 1 to 16 desks of the pricer, which are its own afterwards too, also where
-/// memory ran out. The runtime's gate is told after the last pricing how many partial tours were visited. It fails only where there is no memory left.
+/// memory ran out. The runtime's gate is asked before the round whether the work may go on, and before each pricing
+/// that the calling thread makes; it is told after the last one how many partial tours were visited. A round that
+/// was told to stop answers nothing. It fails else only where there is no memory left.
 pub fn price_nodes<P: Pricer, C: PricingCrew<P>, G: Gate>(
     runtime: &Runtime<C, G>,
     pricer: &P,
@@ -84,7 +99,7 @@ pub fn price_nodes<P: Pricer, C: PricingCrew<P>, G: Gate>(
     sizes: &[u64],
     most_tours: u64,
     desks: &mut [P::Desk],
-) -> Result<Vec<TurnOf>, AllocError>
+) -> Result<Vec<TurnOf>, Interruption>
     requires accepted { IsAccepted (P.snapshot pricer.now) }
     requires cars { cars ≡ car_count (P.snapshot pricer.now) }
     requires few { length tasks.now ≤ 4 }
@@ -94,8 +109,13 @@ pub fn price_nodes<P: Pricer, C: PricingCrew<P>, G: Gate>(
     ensures count { IfOk result (λ answers. length answers.items ≡ length tasks.now * cars) }
     ensures answers { IfOk result (λ answers. AreAnswersOf (P.snapshot pricer.now)
         most_tours tasks.now cars answers.items) }
+    ensures goes_on { G.never_stops runtime.now.gate.now
+        → IsOkUnless result OutOfMemory }
     ensures desks { All (P.owns pricer.now) desks.new }
 {
+    if !runtime.gate.may_go_on() {
+        return Err(Interruption::Told);
+    }
     let count = tasks.len() as u32 * cars;
     let order = drawing_order(runtime.alloc, sizes, count)?;
     let round = Round {
@@ -106,7 +126,11 @@ pub fn price_nodes<P: Pricer, C: PricingCrew<P>, G: Gate>(
         order: &order,
         alloc: runtime.alloc,
     };
-    let drawn = runtime.crew.price_all(runtime.alloc, &round, desks)?;
+    let answers = runtime
+        .crew
+        .price_all(runtime.alloc, &round, desks, runtime.gate)?;
+    let drawn = all_done(runtime.alloc, answers)?;
     runtime.gate.tell(Progress::Priced(visits_of(&drawn)));
-    in_places(runtime.alloc, count, &order, drawn)
+    let turns = in_places(runtime.alloc, count, &order, drawn)?;
+    Ok(turns)
 }

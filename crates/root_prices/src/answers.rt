@@ -1,7 +1,8 @@
 //! What turns at the root answer.
 
-ghost use Rattle.std.specs.Prelude.{◌≡◌, ◌≤◌, ◌^◌, ℕ, IfOk, length};
+ghost use Rattle.std.specs.Prelude.{◌≡◌, ◌≤◌, ◌^◌, ℕ, IfOk, IsOkUnless, length};
 ghost use Rattle.elevator_model.specs.Plans.{IsFeasiblePlan};
+ghost use Rattle.search_model.specs.declared.interruptions.Interruption.TheVariants.{OutOfMemory};
 ghost use Rattle.search_model.specs.Nodes.{root_of};
 ghost use Rattle.search_tree.specs.Sheets.{PriceSheet};
 ghost use Rattle.search_tree.specs.Standing.{IsSheetIn};
@@ -17,7 +18,7 @@ use call_state::Snapshot;
 use elevator_model::Plan;
 use half_plans::{Share, mixture_laws};
 use pricing_rounds::{PricingCrew, desks_for};
-use search_model::{Items, Turn};
+use search_model::{Interruption, Items, Turn};
 use search_tree::Sheet;
 use std::alloc::{AllocError, Global};
 use work_fan::Runtime;
@@ -78,7 +79,7 @@ fn answer(alloc: Global, series: Series, most_tours: u64) -> Result<RootAnswer, 
 /// the two meet: if so, no prices and worths at the root have a greater bound.
 ///
 /// Each pricing tries at most `most_tours` partial tours, and the search for the plan in halves as many
-/// partial pairings. It fails only where there is no memory left.
+/// partial pairings. It fails only where there is no memory left, or where it was told to stop.
 pub fn root_best<P: Pricer, C: PricingCrew<P>, G: Gate>(
     runtime: &Runtime<C, G>,
     snapshot: &Snapshot,
@@ -87,13 +88,15 @@ pub fn root_best<P: Pricer, C: PricingCrew<P>, G: Gate>(
     sheet: Sheet,
     rounds: u32,
     most_tours: u64,
-) -> Result<RootAnswer, AllocError>
+) -> Result<RootAnswer, Interruption>
     requires snapshot { P.snapshot pricer.now ≡ snapshot.now }
     requires start { IsFeasiblePlan snapshot.now start.now }
     requires sheet { IsSheetIn snapshot.now (root_of snapshot.now) sheet }
     requires rounds { (1 ≤ rounds) × (rounds ≤ MOST_ROUNDS) }
     requires most_tours { (1 ≤ most_tours) × (most_tours ≤ 10 ^ 18) }
-    ensures { IfOk result (IsRootAnswer snapshot.now start.now sheet rounds most_tours) }
+    ensures answer { IfOk result (IsRootAnswer snapshot.now start.now sheet rounds most_tours) }
+    ensures goes_on { G.never_stops runtime.now.gate.now
+        → IsOkUnless result OutOfMemory }
 {
     // For the proof: the reader says that the snapshot is accepted.
     let _calls = snapshot.calls();
@@ -101,5 +104,6 @@ pub fn root_best<P: Pricer, C: PricingCrew<P>, G: Gate>(
     let mut desks = desks_for(runtime.alloc, pricer, 1)?;
     let mut series = Series::new(runtime.alloc, snapshot, start, sheet)?;
     series.run(runtime, pricer, &node, rounds, most_tours, &mut desks)?;
-    answer(runtime.alloc, series, most_tours)
+    let best = answer(runtime.alloc, series, most_tours)?;
+    Ok(best)
 }

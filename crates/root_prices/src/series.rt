@@ -1,8 +1,9 @@
 //! Turns at the root, one after another.
 
-ghost use Rattle.std.specs.Prelude.{◌≡◌, ◌<◌, ◌≤◌, ◌+◌, ◌^◌, ℕ, [], ◌∷◌, ◌++◌, IfOk, OnOk, length, map};
+ghost use Rattle.std.specs.Prelude.{◌≡◌, ◌<◌, ◌≤◌, ◌+◌, ◌^◌, ℕ, [], ◌∷◌, ◌++◌, IfOk, IsOkUnless, OnOk, length, map};
 ghost use Rattle.elevator_model.specs.Snapshot.{IsAccepted};
 ghost use Rattle.elevator_model.specs.Plans.{IsFeasiblePlan};
+ghost use Rattle.search_model.specs.declared.interruptions.Interruption.TheVariants.{OutOfMemory};
 ghost use Rattle.search_model.specs.Nodes.{IsNodeOf, root_of};
 ghost use Rattle.search_tree.specs.Answers.{AreAnswersIn};
 ghost use Rattle.search_tree.specs.Sheets.{AreTurnSizes, PriceSheet, better_of, sheet_of_turn, turn_worth};
@@ -18,7 +19,7 @@ use price_scale::Price;
 use pricing_rounds::{PricingCrew, Task};
 use restricted_master::Pool;
 use root_turns::{greatest_of, pool_of, price_turn, prices_after, put_turn, step_after};
-use search_model::{Items, Turn, TurnOf};
+use search_model::{Interruption, Items, Turn, TurnOf};
 use search_tree::Sheet;
 use std::alloc::{AllocError, Global};
 use std::mem::replace;
@@ -114,7 +115,7 @@ impl<'a> Series<'a> {
     }
 
     /// The pricings of all cars in the root at the present prices. It fails only where there is no memory
-    /// left.
+    /// left, or where it was told to stop.
     fn price<P: Pricer, C: PricingCrew<P>, G: Gate>(
         &self,
         runtime: &Runtime<C, G>,
@@ -122,7 +123,7 @@ impl<'a> Series<'a> {
         node: &Node,
         most_tours: u64,
         desks: &mut [P::Desk],
-    ) -> Result<Vec<TurnOf>, AllocError>
+    ) -> Result<Vec<TurnOf>, Interruption>
         requires accepted { IsAccepted (P.snapshot pricer.now) }
         requires series { (first : PriceSheet) × IsSeries (P.snapshot pricer.now) most_tours first self.now }
         requires node { node.now ≡ root_of (P.snapshot pricer.now) }
@@ -131,6 +132,8 @@ impl<'a> Series<'a> {
         requires desks { Serving (P.owns pricer.now) desks.old }
         ensures answers { IfOk result (λ cars. AreAnswersIn (P.snapshot pricer.now) most_tours
             (root_of (P.snapshot pricer.now)) self.now.prices.items cars.items) }
+        ensures goes_on { G.never_stops runtime.now.gate.now
+            → IsOkUnless result OutOfMemory }
         ensures desks { Serving (P.owns pricer.now) desks.new }
     {
         let cars = self.pool.snapshot().building().cars().len() as u32;
@@ -180,7 +183,8 @@ impl<'a> Series<'a> {
         Ok(())
     }
 
-    /// One turn: the pricings of all cars at the present prices. It fails only where there is no memory left.
+    /// One turn: the pricings of all cars at the present prices. It fails only where there is no memory left,
+    /// or where it was told to stop.
     fn turn<P: Pricer, C: PricingCrew<P>, G: Gate>(
         &mut self,
         runtime: &Runtime<C, G>,
@@ -188,7 +192,7 @@ impl<'a> Series<'a> {
         node: &Node,
         most_tours: u64,
         desks: &mut [P::Desk],
-    ) -> Result<(), AllocError>
+    ) -> Result<(), Interruption>
         requires accepted { IsAccepted (P.snapshot pricer.now) }
         requires series { (first : PriceSheet) × IsSeries (P.snapshot pricer.now) most_tours first self.old }
         requires node { node.now ≡ root_of (P.snapshot pricer.now) }
@@ -201,6 +205,8 @@ impl<'a> Series<'a> {
             → IsSeries (P.snapshot pricer.now) most_tours first self.new) }
         ensures turns { OnOk result (length self.new.turns.items ≡ length self.old.turns.items + 1) }
         ensures start { OnOk result (self.new.start.now ≡ self.old.start.now) }
+        ensures goes_on { G.never_stops runtime.now.gate.now
+            → IsOkUnless result OutOfMemory }
         ensures desks { OnOk result (Serving (P.owns pricer.now) desks.new) }
     {
         let cars = self.price(runtime, pricer, node, most_tours, desks)?;
@@ -208,7 +214,8 @@ impl<'a> Series<'a> {
         Ok(())
     }
 
-    /// This many turns, one after another. It fails only where there is no memory left.
+    /// This many turns, one after another. It fails only where there is no memory left, or where they were told
+    /// to stop.
     pub(crate) fn run<P: Pricer, C: PricingCrew<P>, G: Gate>(
         &mut self,
         runtime: &Runtime<C, G>,
@@ -217,7 +224,7 @@ impl<'a> Series<'a> {
         rounds: u32,
         most_tours: u64,
         desks: &mut [P::Desk],
-    ) -> Result<(), AllocError>
+    ) -> Result<(), Interruption>
         requires accepted { IsAccepted (P.snapshot pricer.now) }
         requires series { (first : PriceSheet) × IsSeries (P.snapshot pricer.now) most_tours first self.old }
         requires turns { self.old.turns.items ≡ [] }
@@ -231,6 +238,8 @@ impl<'a> Series<'a> {
             → IsSeries (P.snapshot pricer.now) most_tours first self.new) }
         ensures turns { OnOk result (length self.new.turns.items ≡ rounds) }
         ensures start { OnOk result (self.new.start.now ≡ self.old.start.now) }
+        ensures goes_on { G.never_stops runtime.now.gate.now
+            → IsOkUnless result OutOfMemory }
     {
         for _turn in 0..rounds {
             self.turn(runtime, pricer, node, most_tours, desks)?;

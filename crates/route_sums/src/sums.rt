@@ -21,11 +21,8 @@ use call_sets::CallSet;
 use call_state::Snapshot;
 use elevator_model::Move;
 use partial_tours::Prefix;
-use price_scale::{Price, scaled};
+use price_scale::{MOST_WORTH, Price, scaled};
 use pricing_bound::TourBound;
-
-/// No value of a partial tour is below its negative, in thousandths of a cost unit.
-const MOST_VALUE: i128 = 1_000_000_000_000_000_000_000_000_000;
 
 /// What is kept of a partial tour, in thousandths of a cost unit.
 #[derive(Clone, Copy)]
@@ -178,7 +175,7 @@ impl<'a, 'r, 'p> TourBound for RouteSums<'a, 'r, 'p> {
     }
 
     fn least_value(&self, _departure: &Sums) -> i128 {
-        -MOST_VALUE
+        -MOST_WORTH
     }
 
     fn arrive(&self, prefix: &Prefix, departure: &Sums, floor: u32) -> Sums {

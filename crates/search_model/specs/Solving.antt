@@ -16,7 +16,7 @@ use Rattle.search_model.specs.declared.Twig.TheVariants.{Split, Leaf as Tip}
 use Rattle.search_model.specs.declared.TurnOf.{TurnOf}
 use Rattle.search_model.specs.declared.Turn.{Turn}
 use Rattle.search_model.specs.declared.StopReason.{StopReason}
-use Rattle.search_model.specs.declared.StopReason.TheVariants.{Solved, Rounds, Moves}
+use Rattle.search_model.specs.declared.StopReason.TheVariants.{Solved, Rounds, Moves, Told}
 use Rattle.search_model.specs.Orders.{AtLeast, IsPartialTour}
 use Rattle.search_model.specs.Sums.{int_sum_by, least_where, rounded_up}
 use Rattle.search_model.specs.Nodes.{Node, root_of, set_of, allows, IsTourIn}
@@ -190,11 +190,12 @@ pub record IsOutOfMoves (s : Snapshot) (moves cost bound car count : ℕ) (tree 
   pub is_car : car < car_count s
   pub at_car : Any (λ (p : Placed). IsEndOf s cost car count p.place p.twig) (placed_twigs s tree)
 
--- Why a search ended.
+-- Why a search ended by itself.
 abbrev pub IsReason : Snapshot → (rounds moves cost bound : ℕ) → List Twig → StopReason → Type 0
 IsReason s rounds moves cost bound tree Solved = cost ≡ bound
 IsReason s rounds moves cost bound tree (Rounds done) = IsOutOfRounds s rounds moves cost bound done tree
 IsReason s rounds moves cost bound tree (Moves car count) = IsOutOfMoves s moves cost bound car count tree
+IsReason s rounds moves cost bound tree Told = ⊥
 
 -- ---- the answer
 
@@ -207,9 +208,9 @@ abbrev pub HasChoice : Snapshot → Type 0
 HasChoice s =
     (j : ℕ) × (j < call_count s) × (2 ≤ sum_where (car_count s) (λ c. is_possible s c (call_of s j)) (λ _. 1))
 
--- What a search answers that starts with given prices and with a bound `least` of its own.
-pub record IsFound (start : List ℤ) (least : ℤ) (s : Snapshot) (rounds moves : ℕ) (plan : List (List Stop)) (cost bound : ℕ) (tree : List Twig)
-    (turns : List Turn) (why : StopReason) : Type 0 where
+-- What a search answers that starts with given prices and with a bound `least` of its own, and that ended for a reason.
+pub record IsEnding (Reason : Type 0) (start : List ℤ) (least : ℤ) (s : Snapshot) (rounds moves : ℕ) (plan : List (List Stop)) (cost bound : ℕ)
+    (tree : List Twig) (turns : List Turn) : Type 0 where
   pub proves : Proves s plan cost bound tree
   pub best_bound : pos bound ≡ least_bound cost tree
   pub at_least : least ≤ℤ pos bound
@@ -222,8 +223,36 @@ pub record IsFound (start : List ℤ) (least : ℤ) (s : Snapshot) (rounds moves
   -- no plan made of the tours of the turns is cheaper
   pub tours : 34 ^ car_count s ≤ moves → (other : List (List Stop)) → IsFeasiblePlan s other
       → ((c : ℕ) → c < car_count s → IsTourOfTurns turns c (tour_of other c)) → cost ≤ plan_cost_of s other
-  pub reason : IsReason s rounds moves cost bound tree why
+  pub reason : Reason
+
+-- What a search answers that ended by itself.
+abbrev pub IsFound : (start : List ℤ) (least : ℤ) → Snapshot → (rounds moves : ℕ) → List (List Stop) → (cost bound : ℕ) → List Twig → List Turn
+    → StopReason → Type 0
+IsFound start least s rounds moves plan cost bound tree turns why =
+    IsEnding (IsReason s rounds moves cost bound tree why) start least s rounds moves plan cost bound tree turns
+
+-- What a search answers that was told to stop: what one of fewer rounds answers, for no other reason.
+pub record IsToldAnswer (start : List ℤ) (least : ℤ) (s : Snapshot) (rounds moves : ℕ) (plan : List (List Stop)) (cost bound : ℕ) (tree : List Twig)
+    (turns : List Turn) : Type 0 where
+  pub done : ℕ
+  pub fewer : done ≤ rounds
+  pub ending : IsEnding (Unit {0}) start least s done moves plan cost bound tree turns
+
+-- What a search answers.
+abbrev pub IsSearchAnswer : (start : List ℤ) (least : ℤ) → Snapshot → (rounds moves : ℕ) → List (List Stop) → (cost bound : ℕ) → List Twig → List Turn
+    → StopReason → Type 0
+IsSearchAnswer start least s rounds moves plan cost bound tree turns Told = IsToldAnswer start least s rounds moves plan cost bound tree turns
+IsSearchAnswer start least s rounds moves plan cost bound tree turns Solved = IsFound start least s rounds moves plan cost bound tree turns Solved
+IsSearchAnswer start least s rounds moves plan cost bound tree turns (Rounds done) =
+    IsFound start least s rounds moves plan cost bound tree turns (Rounds done)
+IsSearchAnswer start least s rounds moves plan cost bound tree turns (Moves car count) =
+    IsFound start least s rounds moves plan cost bound tree turns (Moves car count)
 
 -- What a snapshot's solution answers: it starts with the least lone costs.
 abbrev pub IsSolveAnswer : Snapshot → (rounds moves : ℕ) → List (List Stop) → (cost bound : ℕ) → List Twig → List Turn → StopReason → Type 0
 IsSolveAnswer s rounds moves plan cost bound tree turns why = IsFound (start_prices s) (pos (floor_of_bound s)) s rounds moves plan cost bound tree turns why
+
+-- And one that may be told to stop.
+abbrev pub IsSnapshotAnswer : Snapshot → (rounds moves : ℕ) → List (List Stop) → (cost bound : ℕ) → List Twig → List Turn → StopReason → Type 0
+IsSnapshotAnswer s rounds moves plan cost bound tree turns why =
+    IsSearchAnswer (start_prices s) (pos (floor_of_bound s)) s rounds moves plan cost bound tree turns why

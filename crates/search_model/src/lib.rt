@@ -29,12 +29,14 @@
 #![tactic(auto)]
 
 mod draws;
+mod interruptions;
 mod items;
 mod limits;
 
 use call_sets::CarSet;
 pub use draws::Draws;
 use elevator_model::{BadPlan, Plan, Tour};
+pub use interruptions::Interruption;
 pub use items::Items;
 pub use limits::Limits;
 use price_scale::Price;
@@ -164,6 +166,8 @@ pub enum StopReason {
     Rounds { done: u64 },
     /// The car has at least this many partial tours, which is the limit, where nothing is left to split.
     Moves { car: u32, count: u64 },
+    /// It was told to stop.
+    Told,
 }
 
 /// A moment at which a call boarded or was delivered, by the ids of the call and the car.

@@ -21,7 +21,7 @@ use Rattle.search_model.specs.declared.Twig.TheVariants.{Split, Leaf as Tip}
 use Rattle.search_model.specs.declared.TurnOf.{TurnOf}
 use Rattle.search_model.specs.declared.Turn.{Turn}
 use Rattle.search_model.specs.declared.StopReason.{StopReason}
-use Rattle.search_model.specs.declared.StopReason.TheVariants.{Solved, Rounds, Moves}
+use Rattle.search_model.specs.declared.StopReason.TheVariants.{Solved, Rounds, Moves, Told}
 use Rattle.elevator_model.specs.Snapshot.{Snapshot, IsAccepted, car_count, call_count, is_possible}
 use Rattle.elevator_model.specs.Plans.{IsFeasiblePlan, plan_cost_of, tour_of}
 use Rattle.search_model.specs.Sums.{int_sum_by, rounded_up}
@@ -30,7 +30,7 @@ use Rattle.search_model.specs.Prices.{price_at, IsWorth}
 use Rattle.search_model.specs.Certificates.{TreePlace, Placed, places_after, placed_from, is_filled, IsSound, Proves, root_place, worth_in, sum_needed}
 use Rattle.search_model.specs.Certificates.{IsSoundLeaf}
 use Rattle.search_model.specs.Solving.{HasPartialTours, EndsThere, IsAtEnd, IsEndOf, IsOutOfRounds, IsOutOfMoves, least_bound, lesser_bound, bound_of_leaf}
-use Rattle.search_model.specs.Solving.{IsFound, IsReason, HasChoice, AreRootTurns, FollowTurn, IsRootTurn, IsPricing, IsTourOfTurns, is_split, no_turn}
+use Rattle.search_model.specs.Solving.{IsEnding, IsFound, IsReason, HasChoice, AreRootTurns, FollowTurn, IsRootTurn, IsPricing, IsTourOfTurns, is_split, no_turn}
 use Rattle.search_model.specs.Solving.{turn_of_car, sum_of_turn, prices_after}
 use Rattle.search_model.specs.Verdicts.{rounds_enough, moves_enough}
 use Rattle.call_state.proofs.PossibleLemmas.{most_cars-le}
@@ -219,11 +219,11 @@ IsBestOfTurns s most_tours cost turns =
 
 -- Its tree proves plan, cost and bound, and the bound is at least that of the start and of each turn.
 pub found : (s : Snapshot) (rounds most_tours : ℕ) (start : PriceSheet) (turns : List Turn) (tree : List Branch) (plan : List (List Stop)) (cost bound : ℕ)
-    (why : StopReason) → IsTreeAtEnd s most_tours start turns tree → length tree ≤ 8 * rounds + 1 → IsFeasiblePlan s plan → plan_cost_of s plan ≡ cost
+    (Reason : Type 0) → IsTreeAtEnd s most_tours start turns tree → length tree ≤ 8 * rounds + 1 → IsFeasiblePlan s plan → plan_cost_of s plan ≡ cost
     → pos bound ≡ least_bound cost (map twig_of tree) → HasManyTurns s rounds cost bound (map twig_of tree) turns → IsBestOfTurns s most_tours cost turns
-    → IsReason s rounds most_tours cost bound (map twig_of tree) why
-    → IsFound start.prices (bound_of_sheet start) s rounds most_tours plan cost bound (map twig_of tree) turns why
-found s rounds most_tours start turns tree plan cost bound why stands twigs feasible costs bound_is many tours reason =
+    → Reason
+    → IsEnding Reason start.prices (bound_of_sheet start) s rounds most_tours plan cost bound (map twig_of tree) turns
+found s rounds most_tours start turns tree plan cost bound Reason stands twigs feasible costs bound_is many tours is =
     record {
       proves = tree-proves s most_tours plan cost bound tree feasible costs bound_is stands.branches;
       best_bound = bound_is;
@@ -236,7 +236,7 @@ found s rounds most_tours start turns tree plan cost bound why stands twigs feas
           (λ (turn : Turn). rounded_up (sum_of_turn turn) ≤ℤ pos bound) turn_bound start.prices turns stands.root_turns stands.above_turns;
       many_turns = many;
       tours = tours;
-      reason = reason;
+      reason = is;
     }
   where
     turn_bound : (given : List ℤ) (turn : Turn) → IsRootTurn s most_tours given turn → AllInTree (IsAtLeast (sum_of_turn turn)) s tree
@@ -576,3 +576,4 @@ enough_is_solved start least s rounds most_tours plan cost bound tree turns why 
     by_reason (Moves car count) h =
         let limit = h.limit in
         absurd (at_end count car h.at_car.1 (omega (arith, limit, many_moves)) h.is_car h.at_car.4)
+    by_reason Told h = absurd h

@@ -1,6 +1,6 @@
 //! Who makes the pricings of a search.
 
-ghost use Rattle.std.specs.Prelude.{◌≡◌, ℕ, ◌*◌, All, IfOk, Some, length, slice_get, slice_index};
+ghost use Rattle.std.specs.Prelude.{◌≡◌, ℕ, ◌*◌, All, IfOk, IfSome, IsSome, Option, Some, length, slice_get, slice_index};
 ghost use Rattle.work_fan.specs.Work.{Serving};
 ghost use Rattle.pricing_rounds.specs.Rounds.{IsAnswerAt};
 ghost use Rattle.snapshot_solver.specs.Crews.{Owns};
@@ -16,32 +16,36 @@ use work_fan::{Alone, fan_alone};
 /// Who makes the pricings of a search.
 pub trait SearchCrew {
     /// Makes all pricings of a round, at 1 to 16 desks of its searcher: in place `k` stands an answer of the
-    /// pricing that the round draws as its `k`-th. The desks are the searcher's own afterwards too, also where
+    /// pricing that the round draws as its `k`-th, or None where the gate, which may be asked before each
+    /// pricing, does not let it go on. The desks are the searcher's own afterwards too, also where
     /// memory ran out. It fails only where there is no memory left.
-    fn price_all<'a>(
+    fn price_all<'a, G: Gate>(
         &self,
         alloc: Global,
         round: &Round<'_, Searcher<'a>>,
         desks: &mut [Desk<'a>],
-    ) -> Result<Vec<TurnOf>, AllocError>
+        gate: &G,
+    ) -> Result<Vec<Option<TurnOf>>, AllocError>
         requires { Serving (Owns round.now.pricer.now) desks.old }
         ensures count { IfOk result (λ answers.
             length answers.items ≡ length round.now.tasks.now * round.now.cars) }
         ensures right { IfOk result (λ answers.
-            (k : ℕ) (a : TurnOf) → slice_get answers.items k ≡ Some a
-            → IsAnswerAt round.now.pricer.now.snapshot.now round.now.most_tours
-            round.now.tasks.now round.now.cars (slice_index round.now.order.now k) a) }
+            (k : ℕ) (answer : Option TurnOf) → slice_get answers.items k ≡ Some answer
+            → IfSome answer (IsAnswerAt round.now.pricer.now.snapshot.now round.now.most_tours
+            round.now.tasks.now round.now.cars (slice_index round.now.order.now k))) }
+        ensures done { G.never_stops gate.now → IfOk result (λ answers. All IsSome answers.items) }
         ensures desks { All (Owns round.now.pricer.now) desks.new };
 }
 
-impl<G: Gate> SearchCrew for Alone<'_, G> {
-    fn price_all<'a>(
+impl SearchCrew for Alone {
+    fn price_all<'a, G: Gate>(
         &self,
         alloc: Global,
         round: &Round<'_, Searcher<'a>>,
         desks: &mut [Desk<'a>],
-    ) -> Result<Vec<TurnOf>, AllocError> {
-        price_alone(alloc, round, desks, self.gate())
+        gate: &G,
+    ) -> Result<Vec<Option<TurnOf>>, AllocError> {
+        price_alone(alloc, round, desks, gate)
     }
 }
 
@@ -52,14 +56,15 @@ fn price_alone<P: Pricer, G: Gate>(
     round: &Round<P>,
     desks: &mut [P::Desk],
     gate: &G,
-) -> Result<Vec<TurnOf>, AllocError>
+) -> Result<Vec<Option<TurnOf>>, AllocError>
     requires { Serving (P.owns round.now.pricer.now) desks.old }
     ensures count { IfOk result (λ answers.
         length answers.items ≡ length round.now.tasks.now * round.now.cars) }
     ensures right { IfOk result (λ answers.
-        (k : ℕ) (a : TurnOf) → slice_get answers.items k ≡ Some a
-        → IsAnswerAt (P.snapshot round.now.pricer.now) round.now.most_tours
-        round.now.tasks.now round.now.cars (slice_index round.now.order.now k) a) }
+        (k : ℕ) (answer : Option TurnOf) → slice_get answers.items k ≡ Some answer
+        → IfSome answer (IsAnswerAt (P.snapshot round.now.pricer.now) round.now.most_tours
+        round.now.tasks.now round.now.cars (slice_index round.now.order.now k))) }
+    ensures done { G.never_stops gate.now → IfOk result (λ answers. All IsSome answers.items) }
     ensures desks { All (P.owns round.now.pricer.now) desks.new }
 {
     fan_alone(alloc, round, desks, gate)
@@ -72,12 +77,13 @@ pub(crate) struct ByCrew<'c, C: SearchCrew> {
 }
 
 impl<'a, C: SearchCrew> PricingCrew<Searcher<'a>> for ByCrew<'_, C> {
-    fn price_all(
+    fn price_all<G: Gate>(
         &self,
         alloc: Global,
         round: &Round<Searcher<'a>>,
         desks: &mut [Desk<'a>],
-    ) -> Result<Vec<TurnOf>, AllocError> {
-        self.crew.price_all(alloc, round, desks)
+        gate: &G,
+    ) -> Result<Vec<Option<TurnOf>>, AllocError> {
+        self.crew.price_all(alloc, round, desks, gate)
     }
 }

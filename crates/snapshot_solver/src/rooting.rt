@@ -7,9 +7,10 @@ use crate::crews::ByCrew;
 use crate::starts::start_sheet;
 use byte_streams::OpenGate;
 use call_state::Snapshot;
-use first_plan::first;
+use first_plan::{DEFAULT_ROUNDS, first};
 use pricing_search::Searcher;
 use root_prices::{MOST_ROUNDS, RootAnswer, root_best};
+use search_model::Interruption;
 use std::alloc::{AllocError, Global};
 use work_fan::{Alone, Runtime, Workers};
 
@@ -26,17 +27,17 @@ pub fn solve_root(
     requires most_tours { (1 ≤ most_tours) × (most_tours ≤ 10 ^ 18) }
     ensures { IfOk result (IsRootSolution snapshot.now rounds most_tours) }
 {
-    let start = first(alloc, snapshot)?;
+    let start = first(alloc, snapshot, DEFAULT_ROUNDS, &OpenGate)?;
     let sheet = start_sheet(alloc, snapshot)?;
     let searcher = Searcher::new(snapshot);
-    let alone = Alone::new(&OpenGate);
     let runtime = Runtime {
-        crew: &ByCrew { crew: &alone },
+        crew: &ByCrew { crew: &Alone },
         workers: Workers::one(),
         alloc,
         gate: &OpenGate,
     };
-    root_best(
+    let answered = root_best(
         &runtime, snapshot, &searcher, &start, sheet, rounds, most_tours,
-    )
+    );
+    Interruption::unstopped(answered)
 }

@@ -32,6 +32,10 @@ module _ {A : Type 0} where
     pub right : All (λ (d : Done A). (d.job < count) × is_right d.job d.answer) done
     pub all : Any (λ n. count ≤ n) drawn
 
+  -- a right answer of job k, of a job that was not told to stop where the work goes on
+  abbrev pub IsAnswer : (goes_on : Type 0) → (is_right : ℕ → A → Type 0) → (is_done : A → Type 0) → ℕ → A → Type 0
+  IsAnswer goes_on is_right is_done k a = is_right k a × (goes_on → is_done a)
+
   -- all that the worker drew was done, until no job was left
   abbrev pub Finished : (ℕ → A → Type 0) → ℕ → Worker A → Type 0
   Finished is_right count worker = Works is_right count worker.seat.drawn worker.done.items

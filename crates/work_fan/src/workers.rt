@@ -1,10 +1,10 @@
 //! The jobs of one call, done by several workers.
 ghost use Rattle.std.specs.Prelude.{◌≡◌, ℕ, ◌<◌, ◌≤◌, [], length, replicate, All, Contains, IfOk, OnOk};
-ghost use Rattle.std.specs.Prelude.{IsSome, slice_get, slice_index_or};
+ghost use Rattle.std.specs.Prelude.{IsSome, IsTrue, slice_get, slice_index_or};
 ghost use Rattle.std.specs.List.{filter_map};
 ghost use denote.Param.Send.{IsSync, IsSend};
 ghost use Rattle.work_fan.specs.Line.{times};
-ghost use Rattle.work_fan.specs.Work.{Finished, SameSeat, Serving, Starts, jobs_of};
+ghost use Rattle.work_fan.specs.Work.{Finished, IsAnswer, SameSeat, Serving, Starts, jobs_of};
 
 use crate::line::{JobLine, JobSeat};
 use byte_streams::Gate;
@@ -29,14 +29,24 @@ pub trait Jobs: Sync {
     /// This is a right answer of job k.
     ghost is_right: { Self → ℕ → Self.Answer → Type 0 };
 
+    /// This is the answer of a job that was not told to stop.
+    ghost is_done: { Self → Self.Answer → Type 0 };
+
     fn count(&self) -> u32
         ensures { result ≡ number self.now };
 
-    /// Does job `k`. The desk serves the jobs afterwards too, also where memory ran out.
-    fn work(&self, k: u32, desk: &mut Self::Desk) -> Result<Self::Answer, AllocError>
+    /// Does job `k`, or what little it may where the work may not go on. The desk serves the jobs afterwards
+    /// too, also where memory ran out.
+    fn work(
+        &self,
+        k: u32,
+        may_go_on: bool,
+        desk: &mut Self::Desk,
+    ) -> Result<Self::Answer, AllocError>
         requires job { k < number self.now }
         requires desk { serves self.now desk.old }
         ensures answer { IfOk result (is_right self.now k) }
+        ensures done { IsTrue may_go_on → IfOk result (is_done self.now) }
         ensures desk { serves self.now desk.new };
 }
 
@@ -73,13 +83,14 @@ fn work_through<D, A: Drop, J: Jobs<Desk = D, Answer = A>, G: Gate>(
     requires jobs { line.now.count ≡ J.number jobs.now }
     requires worker { Starts line.now 1 worker.old }
     requires desk { J.serves jobs.now desk.old }
-    ensures done { OnOk result (Finished (J.is_right jobs.now) line.now.count worker.new) }
+    ensures done { OnOk result (Finished (IsAnswer (G.never_stops gate.now) (J.is_right jobs.now)
+        (J.is_done jobs.now)) line.now.count worker.new) }
     ensures seat { SameSeat worker.old worker.new }
     ensures desk { J.serves jobs.now desk.new }
 {
     while let Some(job) = line.draw(&mut worker.seat) {
         gate.enter(job);
-        let answer = jobs.work(job, desk)?;
+        let answer = jobs.work(job, gate.may_go_on(), desk)?;
         worker.done.push(Done { job, answer })?;
     }
     Ok(())
@@ -104,7 +115,8 @@ fn work_aside<
     requires jobs { line.now.count ≡ J.number jobs.now }
     requires worker { Starts line.now 1 worker.old }
     requires desk { J.serves jobs.now desk.old }
-    ensures done { OnOk result (Finished (J.is_right jobs.now) line.now.count worker.new) }
+    ensures done { OnOk result (Finished (IsAnswer (G.never_stops gate.now) (J.is_right jobs.now)
+        (J.is_done jobs.now)) line.now.count worker.new) }
     ensures seat { SameSeat worker.old worker.new }
     ensures desk { J.serves jobs.now desk.new }
 {
@@ -114,7 +126,8 @@ fn work_aside<
         requires worker { Starts line.now 1 worker.now }
         requires desk { J.serves jobs.now desk.now }
         ensures done { OnOk result
-            (Finished (J.is_right jobs.entry.now) line.entry.now.count worker.exit.now) }
+            (Finished (IsAnswer (G.never_stops gate.entry.now) (J.is_right jobs.entry.now)
+            (J.is_done jobs.entry.now)) line.entry.now.count worker.exit.now) }
         ensures seat { SameSeat worker.entry.now worker.exit.now }
         ensures desk { J.serves jobs.entry.now desk.exit.now }
     { work_through(line, jobs, gate, worker, desk) };
@@ -144,7 +157,8 @@ fn work_at<
     requires jobs { line.now.count ≡ J.number jobs.now }
     requires worker { Starts line.now (length desks.old) worker.old }
     requires desks { Serving (J.serves jobs.now) desks.old }
-    ensures done { OnOk result (Finished (J.is_right jobs.now) line.now.count worker.new) }
+    ensures done { OnOk result (Finished (IsAnswer (G.never_stops gate.now) (J.is_right jobs.now)
+        (J.is_done jobs.now)) line.now.count worker.new) }
     ensures seat { SameSeat worker.old worker.new }
     ensures desks { All (J.serves jobs.now) desks.new }
 {
@@ -196,8 +210,10 @@ fn first_and_rest<
     requires rest { Serving (J.serves jobs.now) rest.old }
     requires other { Starts line.now 1 other.old }
     requires first { J.serves jobs.now first.old }
-    ensures mine { OnOk result.0 (Finished (J.is_right jobs.now) line.now.count worker.new) }
-    ensures theirs { OnOk result.1 (Finished (J.is_right jobs.now) line.now.count other.new) }
+    ensures mine { OnOk result.0 (Finished (IsAnswer (G.never_stops threads.now.gate.now)
+        (J.is_right jobs.now) (J.is_done jobs.now)) line.now.count worker.new) }
+    ensures theirs { OnOk result.1 (Finished (IsAnswer (G.never_stops threads.now.gate.now)
+        (J.is_right jobs.now) (J.is_done jobs.now)) line.now.count other.new) }
     ensures seats { SameSeat worker.old worker.new × SameSeat other.old other.new }
     ensures desks { All (J.serves jobs.now) rest.new × J.serves jobs.now first.new }
 {
@@ -209,7 +225,8 @@ fn first_and_rest<
         requires worker { Starts line.now (length rest.now) worker.now }
         requires desks { Serving (J.serves jobs.now) rest.now }
         ensures done { OnOk result
-            (Finished (J.is_right jobs.entry.now) line.entry.now.count worker.exit.now) }
+            (Finished (IsAnswer (G.never_stops gate.entry.now) (J.is_right jobs.entry.now)
+            (J.is_done jobs.entry.now)) line.entry.now.count worker.exit.now) }
         ensures seat { SameSeat worker.entry.now worker.exit.now }
         ensures desks { All (J.serves jobs.entry.now) rest.exit.now }
     { work_at(rt, alloc, line, jobs, gate, worker, rest) };
@@ -219,7 +236,8 @@ fn first_and_rest<
         requires worker { Starts line.now 1 other.now }
         requires desk { J.serves jobs.now first.now }
         ensures done { OnOk result
-            (Finished (J.is_right jobs.entry.now) line.entry.now.count other.exit.now) }
+            (Finished (IsAnswer (G.never_stops gate.entry.now) (J.is_right jobs.entry.now)
+            (J.is_done jobs.entry.now)) line.entry.now.count other.exit.now) }
         ensures seat { SameSeat other.entry.now other.exit.now }
         ensures desk { J.serves jobs.entry.now first.exit.now }
     { work_through(line, jobs, gate, other, first) };
@@ -246,7 +264,8 @@ fn work_with<
     requires jobs { line.now.count ≡ J.number jobs.now }
     requires worker { Starts line.now (length desks.old) worker.old }
     requires desks { Serving (J.serves jobs.now) desks.old }
-    ensures done { OnOk result (Finished (J.is_right jobs.now) line.now.count worker.new) }
+    ensures done { OnOk result (Finished (IsAnswer (G.never_stops gate.now) (J.is_right jobs.now)
+        (J.is_done jobs.now)) line.now.count worker.new) }
     ensures seat { SameSeat worker.old worker.new }
     ensures desks { All (J.serves jobs.now) desks.new }
 {
@@ -314,8 +333,9 @@ pub fn in_order<A: Drop>(
 /// of job `k`.
 ///
 /// The workers draw their jobs from one line: a lone one in this thread, several in threads of their own
-/// where they can be made. `gate` is told of each job before it begins. It needs 1 to 16 desks, each of which
-/// serves the jobs, and serves them afterwards too, also where memory ran out.
+/// where they can be made. Before a job begins, `gate` is told of it, and asked whether the work may go on:
+/// where it never stops the work, all jobs are done. It needs 1 to 16 desks, each of which serves the jobs,
+/// and serves them afterwards too, also where memory ran out.
 pub fn fan<J: Jobs, G: Gate + Sync>(
     rt: &impl Threads,
     alloc: Global,
@@ -327,6 +347,8 @@ pub fn fan<J: Jobs, G: Gate + Sync>(
     ensures count { IfOk result (λ answers. length answers.items ≡ J.number jobs.now) }
     ensures right { IfOk result (λ answers.
         (k : ℕ) (a : J.Answer) → slice_get answers.items k ≡ Some a → J.is_right jobs.now k a) }
+    ensures done { G.never_stops gate.now
+        → IfOk result (λ answers. All (J.is_done jobs.now) answers.items) }
     ensures desks { All (J.serves jobs.now) desks.new }
 {
     let (line, seat) = JobLine::begin(alloc, jobs.count(), desks.len() as u32)?;
@@ -352,6 +374,8 @@ pub fn fan_alone<J: Jobs, G: Gate>(
     ensures count { IfOk result (λ answers. length answers.items ≡ J.number jobs.now) }
     ensures right { IfOk result (λ answers.
         (k : ℕ) (a : J.Answer) → slice_get answers.items k ≡ Some a → J.is_right jobs.now k a) }
+    ensures done { G.never_stops gate.now
+        → IfOk result (λ answers. All (J.is_done jobs.now) answers.items) }
     ensures desks { All (J.serves jobs.now) desks.new }
 {
     let (line, seat) = JobLine::begin(alloc, jobs.count(), 1)?;

@@ -46,11 +46,13 @@ impl Jobs for Tens {
 
     ghost is_right = { λ _ k answer. answer ≡ 10 + k };
 
+    ghost is_done = { λ _ _. Unit {0} };
+
     fn count(&self) -> u32 {
         self.count
     }
 
-    fn work(&self, k: u32, desk: &mut u32) -> Result<u64, AllocError> {
+    fn work(&self, k: u32, _may_go_on: bool, desk: &mut u32) -> Result<u64, AllocError> {
         *desk = (*desk + 1).min(100);
         Ok(10 + u64::from(k))
     }
@@ -94,11 +96,13 @@ impl Jobs for Told {
 
     ghost is_right = { λ _ _ _. Unit {0} };
 
+    ghost is_done = { λ _ _. Unit {0} };
+
     fn count(&self) -> u32 {
         3
     }
 
-    fn work(&self, k: u32, _desk: &mut u32) -> Result<bool, AllocError> {
+    fn work(&self, k: u32, _may_go_on: bool, _desk: &mut u32) -> Result<bool, AllocError> {
         Ok(self.begun.load(Ordering::SeqCst) & bit_of(k) != 0)
     }
 }

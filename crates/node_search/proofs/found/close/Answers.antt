@@ -1,7 +1,7 @@
 use Rattle.search_model.specs.declared.StopReason.TheVariants.{Solved}
 use Rattle.search_tree.specs.Standing.{bound_of_sheet}
 use Rattle.node_search.specs.Found.{IsAnswerOf}
-use Rattle.node_search.proofs.SearchStart.{turns_above}
+use Rattle.node_search.proofs.SearchStart.{so_far, turns_above}
 use Rattle.node_search.proofs.SearchEnd.{answer_found, bound_natural, found_solved, if_ok}
 use Rattle.node_search.proofs.found.close.Goals as goal
 
@@ -12,7 +12,8 @@ answer-requires g c =
     let start = c.requires.turned.0 in
     let turned = c.requires.turned.2 in
     bound_natural s c.args.limits.most_tours start root.turns.items root.tree.branches root.best turned.stands.best
-    (turns_above s c.args.limits.rounds c.args.limits.most_tours start root turned c.requires.accepted.building.cars_low) c.requires.turned.1
+    (turns_above s c.args.limits.rounds c.args.limits.most_tours start root (so_far s c.args.limits.rounds c.args.limits.most_tours start root turned)
+    c.requires.accepted.building.cars_low) c.requires.turned.1
 
 pub returns-clause-found : goal.returns-clause-found
 returns-clause-found g c =

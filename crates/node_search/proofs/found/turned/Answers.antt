@@ -1,31 +1,56 @@
-use Rattle.std.proofs.Common.{ℕ, sym, subst}
+use Rattle.std.specs.Prelude.{Bool}
+use Rattle.std.proofs.Common.{◌≡◌, ℕ, refl, sym, subst, true, false}
 use Rattle.elevator_model.specs.Snapshot.{Snapshot, IsAccepted}
 use Rattle.search_model.specs.Nodes.{root_of}
 use Rattle.search_tree.specs.Standing.{IsSheetIn}
-use Rattle.node_search.specs.Found.{IsTurned}
-use Rattle.node_search.specs.Roots.{IsNewRoot}
-use Rattle.node_search.proofs.RootStart.{new_root, turned_is}
+use Rattle.node_search.specs.Found.{HasDueTurns, IsTurnedSoFar}
+use Rattle.node_search.specs.Roots.{IsNewRoot, IsTurning}
+use Rattle.pricing_rounds.proofs.Interruptions.{flag_false, on_ok}
+use Rattle.node_search.proofs.RootStart.{new_root, so_far_is}
 use Rattle.node_search.proofs.found.turned.Goals as goal
 
-pub turn_as_due-requires-clause-root : goal.turn_as_due-requires-clause-root
-turn_as_due-requires-clause-root g c κs within =
+pub turn_as_due-ended-requires-clause-root : goal.turn_as_due-ended-requires-clause-root
+turn_as_due-ended-requires-clause-root g c κs within =
     let s = g.P.Pricer.snapshot c.args.pricer.now in
     let same = sym c.requires.snapshot in
     let sheet = subst (λ (x : Snapshot). IsSheetIn x (root_of x) c.args.sheet) same c.requires.sheet in
     let is = subst (λ (x : Snapshot). IsNewRoot x c.args.sheet c.in_ok-root.root) same c.in_ok-root.ensures in
     new_root s c.most_tours.result c.args.sheet c.in_ok-root.root is sheet
 
-pub returns-clause-turned : goal.returns-clause-turned
-returns-clause-turned g c =
+pub returns-clause-so_far : goal.returns-clause-so_far
+returns-clause-so_far g c =
     let s = g.P.Pricer.snapshot c.args.pricer.now in
     let same = sym c.requires.snapshot in
     let sheet = subst (λ (x : Snapshot). IsSheetIn x (root_of x) c.args.sheet) same c.requires.sheet in
-    let is = subst (λ (x : Snapshot). IsNewRoot x c.args.sheet c.in_ok-root.root) same c.in_ok-root.ensures in
-    let due = c.in_ok-turn_as_due.ensures in
-    let root = c.turn_as_due.new.self in
-    let turned = turned_is s c.most_tours.result c.args.sheet c.in_ok-root.root is sheet c.rounds.result root due.root due.turned due.due in
-    subst (λ (n : ℕ). IsTurned s c.args.limits.rounds n c.args.sheet root) c.most_tours.ensures.value
-    (subst (λ (n : ℕ). IsTurned s n c.most_tours.result c.args.sheet root) c.rounds.ensures.value turned)
+    let new = subst (λ (x : Snapshot). IsNewRoot x c.args.sheet c.in_ok-root.root) same c.in_ok-root.ensures in
+    let root = c.turn_as_due-ended.new.self in
+    let turning = by_told c.in_ok-is_told.is_told refl in
+    let far = so_far_is s c.most_tours.result c.args.sheet c.in_ok-root.root new sheet c.rounds.result root turning.stands turning.turned turning.few in
+    subst (λ (n : ℕ). IsTurnedSoFar s c.args.limits.rounds n c.args.sheet root) c.most_tours.ensures.value
+    (subst (λ (n : ℕ). IsTurnedSoFar s n c.most_tours.result c.args.sheet root) c.rounds.ensures.value far)
+  where
+    by_told : (told : Bool) → c.in_ok-is_told.is_told ≡ told
+        → IsTurning (g.P.Pricer.snapshot c.args.pricer.now) c.rounds.result c.most_tours.result c.in_ok-root.root c.turn_as_due-ended.new.self
+    by_told true is = c.turn_as_due-ended.ensures.told (c.in_ok-is_told.ensures.told is)
+    by_told false is =
+        let ok = c.in_ok-is_told.ensures.done is in
+        let ended = c.turn_as_due-ended.result in
+        let due = on_ok ended _ ok c.turn_as_due-ended.ensures.due in
+        record {
+          stands = on_ok ended _ ok c.turn_as_due-ended.ensures.root;
+          turned = on_ok ended _ ok c.turn_as_due-ended.ensures.turned;
+          few = due.few;
+        }
+
+pub returns-clause-due : goal.returns-clause-due
+returns-clause-due g c untold =
+    let s = g.P.Pricer.snapshot c.args.pricer.now in
+    let due = on_ok c.turn_as_due-ended.result _ (c.in_ok-is_told.ensures.done untold) c.turn_as_due-ended.ensures.due in
+    subst (λ (n : ℕ). HasDueTurns s n c.turn_as_due-ended.new.self) c.rounds.ensures.value due
+
+pub returns-clause-goes_on : goal.returns-clause-goes_on
+returns-clause-goes_on g c going =
+    flag_false c.turn_as_due-ended.result c.in_ok-is_told.is_told c.in_ok-is_told.ensures.told (c.turn_as_due-ended.ensures.goes_on going)
 
 pub new-requires-clause-start : goal.new-requires-clause-start
 new-requires-clause-start g c = c.requires.start
@@ -33,20 +58,20 @@ new-requires-clause-start g c = c.requires.start
 pub new-requires-clause-calls : goal.new-requires-clause-calls
 new-requires-clause-calls g c = c.requires.sheet.calls
 
-pub turn_as_due-requires-clause-accepted : goal.turn_as_due-requires-clause-accepted
-turn_as_due-requires-clause-accepted g c κs within = subst IsAccepted (sym c.requires.snapshot) c.calls.ensures.accepted
+pub turn_as_due-ended-requires-clause-accepted : goal.turn_as_due-ended-requires-clause-accepted
+turn_as_due-ended-requires-clause-accepted g c κs within = subst IsAccepted (sym c.requires.snapshot) c.calls.ensures.accepted
 
-pub turn_as_due-requires-clause-desks : goal.turn_as_due-requires-clause-desks
-turn_as_due-requires-clause-desks g c κs within = c.requires.desks
+pub turn_as_due-ended-requires-clause-desks : goal.turn_as_due-ended-requires-clause-desks
+turn_as_due-ended-requires-clause-desks g c κs within = c.requires.desks
 
-pub turn_as_due-requires-clause-most_tours : goal.turn_as_due-requires-clause-most_tours
-turn_as_due-requires-clause-most_tours g c κs within = c.most_tours.ensures.range
+pub turn_as_due-ended-requires-clause-most_tours : goal.turn_as_due-ended-requires-clause-most_tours
+turn_as_due-ended-requires-clause-most_tours g c κs within = c.most_tours.ensures.range
 
-pub turn_as_due-requires-clause-rounds : goal.turn_as_due-requires-clause-rounds
-turn_as_due-requires-clause-rounds g c κs within = c.rounds.ensures.range.0
+pub turn_as_due-ended-requires-clause-rounds : goal.turn_as_due-ended-requires-clause-rounds
+turn_as_due-ended-requires-clause-rounds g c κs within = c.rounds.ensures.range.0
 
-pub turn_as_due-requires-clause-turns : goal.turn_as_due-requires-clause-turns
-turn_as_due-requires-clause-turns g c κs within = c.in_ok-root.ensures.turns
+pub turn_as_due-ended-requires-clause-turns : goal.turn_as_due-ended-requires-clause-turns
+turn_as_due-ended-requires-clause-turns g c κs within = c.in_ok-root.ensures.turns
 
 pub returns-clause-accepted : goal.returns-clause-accepted
 returns-clause-accepted g c = subst IsAccepted (sym c.requires.snapshot) c.calls.ensures.accepted
@@ -54,8 +79,9 @@ returns-clause-accepted g c = subst IsAccepted (sym c.requires.snapshot) c.calls
 pub returns-in_err-root-clause-accepted : goal.returns-in_err-root-clause-accepted
 returns-in_err-root-clause-accepted g c = subst IsAccepted (sym c.requires.snapshot) c.calls.ensures.accepted
 
-pub returns-in_err-turn_as_due-clause-accepted : goal.returns-in_err-turn_as_due-clause-accepted
-returns-in_err-turn_as_due-clause-accepted g c = subst IsAccepted (sym c.requires.snapshot) c.calls.ensures.accepted
+pub returns-in_err-is_told-clause-accepted : goal.returns-in_err-is_told-clause-accepted
+returns-in_err-is_told-clause-accepted g c = subst IsAccepted (sym c.requires.snapshot) c.calls.ensures.accepted
 
 pub returns-clause-desks : goal.returns-clause-desks
-returns-clause-desks g c = c.in_ok-turn_as_due.ensures.desks
+returns-clause-desks g c untold =
+    on_ok c.turn_as_due-ended.result _ (c.in_ok-is_told.ensures.done untold) c.turn_as_due-ended.ensures.desks

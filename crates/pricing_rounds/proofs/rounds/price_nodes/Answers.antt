@@ -2,10 +2,12 @@ use Rattle.std.specs.Prelude.{slice_get, Some}
 use Rattle.std.proofs.Common.{rules, ◌≡◌, ℕ, ◌*◌, List, length, sym, subst, ◌∙◌, Vec, Global}
 use Rattle.std.specs.List.{Contains, zip}
 use Rattle.std.proofs.lemmas.Option.{get_or_from_slice_get, slice_get_within}
+use Rattle.std.proofs.lemmas.Result.{err_from_is_err_and}
 use Rattle.search_model.specs.declared.TurnOf.{TurnOf}
-use Rattle.pricing_rounds.specs.Rounds.{AreAnswersOf, IsOrderOf, IsTaskOf}
+use Rattle.pricing_rounds.specs.Rounds.{IsOrderOf, IsTaskOf}
 use Rattle.pricing_rounds.proofs.DrawingLemmas.{answer_at, order_below, order_long}
-use Rattle.pricing_rounds.proofs.RoundLemmas.{ok_both, answers_of}
+use Rattle.pricing_rounds.proofs.Interruptions.{passed_memory}
+use Rattle.pricing_rounds.proofs.RoundLemmas.{answers_of}
 use Rattle.pricing_rounds.proofs.rounds.price_nodes.Goals as goal
 
 -- what the slice holds is the order that was made
@@ -39,14 +41,20 @@ returns-clause-answers g c =
     let cars = c.args.cars in
     let order = c.deref.result.now in
     let drawn = c.in_ok-drawn.drawn.items in
-    let same : length drawn ≡ length order = c.in_ok-drawn.ensures.count
+    let count = c.in_ok-answers.ensures.count in
+    let same : length drawn ≡ length order = c.in_ok-drawn.ensures.count ∙ count
     ∙ sym (order_long (length tasks * cars) order
     (order_is (length tasks * cars) c.in_ok-order.order.items order c.deref.ensures.value c.in_ok-order.ensures.order)) in
     let kept : c.deref-3.result.now ≡ order = c.deref-3.ensures.value ∙ sym c.deref.ensures.value in
-    let Counted : Vec TurnOf Global → Type 0 = λ v. length v.items ≡ length tasks * cars in
+    let turns = c.in_ok-turns.turns in
     let From : List ℕ → Vec TurnOf Global → Type 0 = λ o v. (p : ℕ) (a : TurnOf) → slice_get v.items p ≡ Some a → Contains (zip o drawn) (p, a) in
-    let Goal : Vec TurnOf Global → Type 0 = λ v. AreAnswersOf s c.args.most_tours tasks cars v.items in
-    ok_both c.in_places.result Counted (From c.deref-3.result.now) Goal
-    (λ v count from. answers_of s c.args.most_tours tasks cars v.items count
-    (λ p a at. answer_at s c.args.most_tours tasks cars order drawn same c.in_ok-drawn.ensures.right p a
-    (subst (λ (o : List ℕ). From o v) kept from p a at))) c.in_places.ensures.count c.in_places.ensures.from
+    answers_of s c.args.most_tours tasks cars turns.items c.in_ok-turns.ensures.count
+    (λ p a at. answer_at s c.args.most_tours tasks cars order drawn same
+    (λ n b there. c.in_ok-answers.ensures.right n (Some b) (c.in_ok-drawn.ensures.from n b there)) p a
+    (subst (λ (o : List ℕ). From o turns) kept c.in_ok-turns.ensures.from p a at))
+
+pub returns-in_err-drawn-clause-goes_on : goal.returns-in_err-drawn-clause-goes_on
+returns-in_err-drawn-clause-goes_on g c going =
+    let passed = err_from_is_err_and c.from_residual-in_err-drawn.result c.from_residual-in_err-drawn.ensures.1 in
+    passed_memory c.from_residual-in_err-drawn.result c.in_err-drawn.field-0.0 passed.0 passed.1 passed.2
+    (c.in_err-drawn.ensures.goes_on (c.in_ok-answers.ensures.done going))

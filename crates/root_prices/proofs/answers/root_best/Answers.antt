@@ -1,10 +1,9 @@
 use Rattle.std.proofs.Common.{◌∙◌, length, sym, subst}
 use Rattle.elevator_model.specs.Snapshot.{Snapshot}
-use Rattle.search_tree.specs.Sheets.{PriceSheet}
-use Rattle.root_prices.specs.declared.answers.RootAnswer.{RootAnswer}
-use Rattle.root_prices.specs.RootAnswers.{IsRootAnswer}
 use Rattle.root_prices.specs.SeriesOfTurns.{IsSeries}
-use Rattle.root_prices.proofs.MeetingLaws.{answered, if_ok}
+use Rattle.root_prices.proofs.MeetingLaws.{answered}
+use Rattle.std.proofs.lemmas.Result.{err_from_is_err_and}
+use Rattle.pricing_rounds.proofs.Interruptions.{passed_memory}
 use Rattle.root_prices.proofs.answers.root_best.Goals as goal
 
 pub run-requires-clause-series : goal.run-requires-clause-series
@@ -24,8 +23,8 @@ answer-requires-clause-series g c =
     let is = c.in_ok-run.ensures.series sheet new in
     (sheet, subst (λ (z : Snapshot). IsSeries z most_tours sheet x) (sym is.snapshot) is)
 
-pub returns : goal.returns
-returns g c =
+pub returns-clause-answer : goal.returns-clause-answer
+returns-clause-answer g c =
     let sheet = c.args.sheet in
     let most_tours = c.args.most_tours in
     let x = c.run.new.self in
@@ -33,9 +32,11 @@ returns g c =
     (c.in_ok-series.ensures.series most_tours) in
     let is = c.in_ok-run.ensures.series sheet new in
     let own = subst (λ (z : Snapshot). IsSeries z most_tours sheet x) (sym is.snapshot) is in
-    let Says : RootAnswer → Type 0 = λ a. (first : PriceSheet) → IsSeries x.pool.snapshot most_tours first x
-    → IsRootAnswer x.pool.snapshot x.start.now first (length x.turns.items) most_tours a in
-    if_ok Says (IsRootAnswer c.args.snapshot.now c.args.start.now sheet c.args.rounds most_tours)
-    (λ a says. answered c.args.snapshot.now x.pool.snapshot c.args.start.now x.start.now sheet c.args.rounds (length x.turns.items) most_tours a
-    (is.snapshot ∙ c.requires.snapshot) (c.in_ok-run.ensures.start ∙ c.in_ok-series.ensures.start) c.in_ok-run.ensures.turns (says sheet own))
-    c.answer.result c.answer.ensures
+    answered c.args.snapshot.now x.pool.snapshot c.args.start.now x.start.now sheet c.args.rounds (length x.turns.items) most_tours c.in_ok-best.best
+    (is.snapshot ∙ c.requires.snapshot) (c.in_ok-run.ensures.start ∙ c.in_ok-series.ensures.start) c.in_ok-run.ensures.turns
+    (c.in_ok-best.ensures sheet own)
+
+pub returns-in_err-run-clause-goes_on : goal.returns-in_err-run-clause-goes_on
+returns-in_err-run-clause-goes_on g c going =
+    let passed = err_from_is_err_and c.from_residual-in_err-run.result c.from_residual-in_err-run.ensures.1 in
+    passed_memory c.from_residual-in_err-run.result c.in_err-run.field-0.0 passed.0 passed.1 passed.2 (c.in_err-run.ensures.goes_on going)

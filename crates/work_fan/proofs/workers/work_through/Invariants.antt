@@ -1,7 +1,7 @@
 use Rattle.std.proofs.Common.{◌≡◌, ◌-◌, ◌<◌}
 use Rattle.std.specs.List.{All}
 use Rattle.work_fan.specs.declared.workers.Done.{Done}
-use Rattle.work_fan.specs.Work.{jobs_of}
+use Rattle.work_fan.specs.Work.{IsAnswer, jobs_of}
 use Rattle.work_fan.proofs.DoneLists.{next_after}
 use Rattle.work_fan.proofs.workers.work_through.Given as goal
 
@@ -12,7 +12,7 @@ invariant-loop-job g l =
       allowance : l.worker.seat.allowance ≡ l.fn.worker.seat.allowance;
       below : All (λ n. n < l.line.count) l.worker.seat.drawn;
       jobs : jobs_of l.worker.done.items ≡ l.worker.seat.drawn;
-      right : All (λ (d : Done g.row.A.Denot). (d.job < l.line.count) × g.J.Jobs.is_right l.jobs d.job d.answer) l.worker.done.items;
+      right : All (λ (d : Done g.row.A.Denot). (d.job < l.line.count) × IsAnswer (g.G.Gate.never_stops l.gate) (g.J.Jobs.is_right l.jobs) (g.J.Jobs.is_done l.jobs) d.job d.answer) l.worker.done.items;
       desk : g.J.Jobs.serves l.jobs l.desk;
     }
 

@@ -1,4 +1,6 @@
 use Rattle.node_search.proofs.RootTurns.{has_one_turn, turns_more}
+use Rattle.std.proofs.lemmas.Result.{err_from_is_err_and}
+use Rattle.pricing_rounds.proofs.Interruptions.{passed_memory}
 use Rattle.node_search.proofs.root.Root.turn.Goals as goal
 
 pub returns-clause-first : goal.returns-clause-first
@@ -46,3 +48,8 @@ returns-clause-turns g c =
 
 pub returns-clause-desks : goal.returns-clause-desks
 returns-clause-desks g c = c.price.ensures.desks
+
+pub returns-in_err-cars-clause-goes_on : goal.returns-in_err-cars-clause-goes_on
+returns-in_err-cars-clause-goes_on g c going =
+    let passed = err_from_is_err_and c.from_residual.result c.from_residual.ensures.1 in
+    passed_memory c.from_residual.result c.in_err-cars.field-0.0 passed.0 passed.1 passed.2 (c.in_err-cars.ensures.goes_on going)

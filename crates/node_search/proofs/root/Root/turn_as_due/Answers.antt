@@ -1,10 +1,15 @@
-use Rattle.std.proofs.Common.{rules, ◌≡◌, ℕ, get_or, sym, ap, length, subst, arith}
+use Rattle.std.proofs.Common.{rules, ◌≡◌, ◌≤◌, ℕ, get_or, refl, sym, ap, length, subst, arith}
 use Rattle.elevator_model.specs.Snapshot.{call_count}
 use Rattle.search_model.specs.Nodes.{root_of}
 use Rattle.search_tree.specs.Branches.{AreSingle}
 use Rattle.node_search.proofs.RootDue.{due_many, due_one}
 use Rattle.node_search.proofs.RootTurns.{root_calls, turned-none}
 use Rattle.node_search.proofs.SettleLaws.{choice_many, choice_none}
+use Rattle.std.specs.Prelude.{Err}
+use Rattle.std.proofs.lemmas.Result.{err_from_is_err_and}
+use Rattle.pricing_rounds.proofs.Interruptions.{passed_memory, passed_told}
+use Rattle.node_search.specs.declared.root.Root.{Root}
+use Rattle.node_search.specs.Roots.{HasTurned, IsRoot}
 use Rattle.node_search.proofs.root.Root.turn_as_due.Goals as goal
 
 pub returns-in_ok-turn_until-clause-due : goal.returns-in_ok-turn_until-clause-due
@@ -94,3 +99,33 @@ returns-else-is_open-clause-turned g c = turned-none c.args.self.now
 
 pub returns-else-is_open-clause-desks : goal.returns-else-is_open-clause-desks
 returns-else-is_open-clause-desks g c = c.requires.desks
+
+pub returns-in_err-turn_until-clause-goes_on : goal.returns-in_err-turn_until-clause-goes_on
+returns-in_err-turn_until-clause-goes_on g c going =
+    let passed = err_from_is_err_and c.from_residual.result c.from_residual.ensures.1 in
+    passed_memory c.from_residual.result c.in_err-turn_until.field-0.0 passed.0 passed.1 passed.2 (c.in_err-turn_until.ensures.goes_on going)
+
+pub returns-in_err-turn_until-clause-told : goal.returns-in_err-turn_until-clause-told
+returns-in_err-turn_until-clause-told g c told =
+    let passed = err_from_is_err_and c.from_residual.result c.from_residual.ensures.1 in
+    let inner = passed_told (Err c.in_err-turn_until.field-0.0) c.from_residual.result c.in_err-turn_until.field-0.0 passed.0 refl passed.1 passed.2 told in
+    let stopped = c.in_err-turn_until.ensures.told inner in
+    let few = stopped.few in
+    record { stands = stopped.stands; turned = stopped.turned; few = search (rules, few) }
+
+pub returns-in_err-turn_once-clause-goes_on : goal.returns-in_err-turn_once-clause-goes_on
+returns-in_err-turn_once-clause-goes_on g c going =
+    let passed = err_from_is_err_and c.from_residual-in_err-turn_once.result c.from_residual-in_err-turn_once.ensures.1 in
+    passed_memory c.from_residual-in_err-turn_once.result c.in_err-turn_once.field-0.0 passed.0 passed.1 passed.2 (c.in_err-turn_once.ensures.goes_on going)
+
+pub returns-in_err-turn_once-clause-told : goal.returns-in_err-turn_once-clause-told
+returns-in_err-turn_once-clause-told g c told =
+    let passed = err_from_is_err_and c.from_residual-in_err-turn_once.result c.from_residual-in_err-turn_once.ensures.1 in
+    let inner = passed_told (Err c.in_err-turn_once.field-0.0) c.from_residual-in_err-turn_once.result c.in_err-turn_once.field-0.0 passed.0 refl passed.1 passed.2 told in
+    let same = c.in_err-turn_once.ensures.told inner in
+    let none = ap length c.requires.turns in
+    record {
+      stands = subst (λ (x : Root). IsRoot (g.P.Pricer.snapshot c.args.pricer.now) c.args.most_tours x) (sym same) c.requires.root;
+      turned = subst (λ (x : Root). HasTurned c.args.self.now x) (sym same) (turned-none c.args.self.now);
+      few = subst (λ (x : Root). length x.turns.items ≤ c.args.rounds) (sym same) (omega (arith, none));
+    }

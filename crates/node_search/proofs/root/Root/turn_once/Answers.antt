@@ -1,5 +1,8 @@
-use Rattle.std.proofs.Common.{ap, length, arith}
+use Rattle.std.proofs.Common.{ap, length, refl, arith}
 use Rattle.node_search.proofs.RootTurns.{turned-more}
+use Rattle.std.specs.Prelude.{Err}
+use Rattle.std.proofs.lemmas.Result.{err_from_is_err_and}
+use Rattle.pricing_rounds.proofs.Interruptions.{passed_memory, passed_told}
 use Rattle.node_search.proofs.root.Root.turn_once.Goals as goal
 
 pub returns-clause-turned : goal.returns-clause-turned
@@ -44,3 +47,14 @@ returns-clause-turns g c =
     let more = c.in_ok-turn.ensures.turns in
     let none = ap length c.requires.turns in
     omega (arith, same, more, none)
+
+pub returns-in_err-turn-clause-goes_on : goal.returns-in_err-turn-clause-goes_on
+returns-in_err-turn-clause-goes_on g c going =
+    let passed = err_from_is_err_and c.from_residual.result c.from_residual.ensures.1 in
+    passed_memory c.from_residual.result c.in_err-turn.field-0.0 passed.0 passed.1 passed.2 (c.in_err-turn.ensures.goes_on going)
+
+pub returns-in_err-turn-clause-told : goal.returns-in_err-turn-clause-told
+returns-in_err-turn-clause-told g c told =
+    let passed = err_from_is_err_and c.from_residual.result c.from_residual.ensures.1 in
+    let inner = passed_told (Err c.in_err-turn.field-0.0) c.from_residual.result c.in_err-turn.field-0.0 passed.0 refl passed.1 passed.2 told in
+    c.in_err-turn.ensures.told inner

@@ -1,5 +1,10 @@
-use Rattle.std.proofs.Common.{arith}
 use Rattle.node_search.proofs.RootTurns.{root_lone, turned-more}
+use Rattle.std.specs.Prelude.{Err}
+use Rattle.std.proofs.Common.{◌≤◌, arith, length, refl, subst, sym}
+use Rattle.std.proofs.lemmas.Result.{err_from_is_err_and}
+use Rattle.pricing_rounds.proofs.Interruptions.{passed_memory, passed_told}
+use Rattle.node_search.specs.declared.root.Root.{Root}
+use Rattle.node_search.specs.Roots.{HasTurned, IsRoot}
 use Rattle.node_search.proofs.root.Root.turn_until.Goals as goal
 
 pub is_open-requires : goal.is_open-requires
@@ -54,3 +59,21 @@ returns-then-not-is_open-clause-turned g c = c.loop-turn.invariant.turned
 
 pub returns-then-not-is_open-clause-desks : goal.returns-then-not-is_open-clause-desks
 returns-then-not-is_open-clause-desks g c = c.loop-turn.invariant.desks
+
+pub returns-in_err-turn-clause-goes_on : goal.returns-in_err-turn-clause-goes_on
+returns-in_err-turn-clause-goes_on g c going =
+    let passed = err_from_is_err_and c.from_residual.result c.from_residual.ensures.1 in
+    passed_memory c.from_residual.result c.in_err-turn.field-0.0 passed.0 passed.1 passed.2 (c.in_err-turn.ensures.goes_on going)
+
+pub returns-in_err-turn-clause-told : goal.returns-in_err-turn-clause-told
+returns-in_err-turn-clause-told g c told =
+    let passed = err_from_is_err_and c.from_residual.result c.from_residual.ensures.1 in
+    let inner = passed_told (Err c.in_err-turn.field-0.0) c.from_residual.result c.in_err-turn.field-0.0 passed.0 refl passed.1 passed.2 told in
+    let same = c.in_err-turn.ensures.told inner in
+    let count = c.loop-turn.invariant.turns in
+    let below = c.loop-turn-test.true in
+    record {
+      stands = subst (λ (x : Root). IsRoot (g.P.Pricer.snapshot c.args.pricer.now) c.args.most_tours x) (sym same) c.loop-turn.invariant.root;
+      turned = subst (λ (x : Root). HasTurned c.args.self.now x) (sym same) c.loop-turn.invariant.turned;
+      few = subst (λ (x : Root). length x.turns.items ≤ c.args.most) (sym same) (omega (arith, count, below));
+    }

@@ -8,6 +8,8 @@ use Rattle.node_search.specs.Best.{IsBest}
 use Rattle.node_search.specs.declared.rounds.Chosen.{Chosen}
 use Rattle.node_search.specs.Searches.{AreTaken, HasAdvanced}
 use Rattle.node_search.proofs.RoundLaws.{taken_busy, taken_calls, round_searching}
+use Rattle.std.proofs.lemmas.Result.{err_from_is_err_and}
+use Rattle.pricing_rounds.proofs.Interruptions.{passed_memory}
 use Rattle.node_search.proofs.search.Search.round.Goals as goal
 
 some-of : (n m : ℕ) → n ≡ m → (n == 0) ≡ false → 0 < m
@@ -67,3 +69,8 @@ returns-clause-busy g c _ rest =
     let ok = c.in_ok-chosen.chosen.ok.0 in
     let some : 0 < length chosen = some-of (vec_len c.in_ok-chosen.chosen) (length chosen) (omega (arith, ok)) (sym c.is_empty.ensures ∙ c.if-is_empty.false) in
     taken_busy s old chosen c.index.result.now (slice_get_read chosen (length chosen) 0 c.index.result.now refl some c.index.ensures) taken rest
+
+pub returns-in_err-answers-clause-goes_on : goal.returns-in_err-answers-clause-goes_on
+returns-in_err-answers-clause-goes_on g c going =
+    let passed = err_from_is_err_and c.from_residual-in_err-answers.result c.from_residual-in_err-answers.ensures.1 in
+    passed_memory c.from_residual-in_err-answers.result c.in_err-answers.field-0.0 passed.0 passed.1 passed.2 (c.in_err-answers.ensures.goes_on going)

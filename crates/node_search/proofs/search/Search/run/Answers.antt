@@ -1,7 +1,10 @@
-use Rattle.std.proofs.Common.{◌≡◌, ◌≤◌, sym, subst, inl, inr, arith}
+use Rattle.std.proofs.Common.{◌≡◌, ◌≤◌, refl, sym, subst, inl, inr, arith}
 use Rattle.search_tree.specs.Standing.{AllInTree, IsAtLeast}
 use Rattle.node_search.specs.declared.search.Search.{Search}
-use Rattle.node_search.specs.Searches.{HasDoneRound}
+use Rattle.node_search.specs.Searches.{HasDoneRound, IsSearching}
+use Rattle.std.specs.Prelude.{Err}
+use Rattle.std.proofs.lemmas.Result.{err_from_is_err_and}
+use Rattle.pricing_rounds.proofs.Interruptions.{passed_memory, passed_told}
 use Rattle.node_search.proofs.search.Search.run.Goals as goal
 
 pub loop-self-init : goal.loop-self-init
@@ -70,3 +73,23 @@ returns-then-not-branch-clause-run g c =
       ended = inr (c.in_ok-round.ensures.rest c.if-not-branch.true);
       sums = λ z h. subst (λ (x : Search). AllInTree (IsAtLeast z) s x.tree.branches) (sym same) (was.sums z h);
     }
+
+pub returns-in_err-round-clause-goes_on : goal.returns-in_err-round-clause-goes_on
+returns-in_err-round-clause-goes_on g c going =
+    let passed = err_from_is_err_and c.from_residual.result c.from_residual.ensures.1 in
+    passed_memory c.from_residual.result c.in_err-round.field-0.0 passed.0 passed.1 passed.2 (c.in_err-round.ensures.goes_on going)
+
+pub returns-in_err-round-clause-told : goal.returns-in_err-round-clause-told
+returns-in_err-round-clause-told g c told =
+    let passed = err_from_is_err_and c.from_residual.result c.from_residual.ensures.1 in
+    let inner = passed_told (Err c.in_err-round.field-0.0) c.from_residual.result c.in_err-round.field-0.0 passed.0 refl passed.1 passed.2 told in
+    let s = g.P.Pricer.snapshot c.args.pricer.now in
+    let was = c.loop-self.invariant in
+    let same = c.in_err-round.ensures.told inner in (
+      subst (λ (x : Search). IsSearching s c.args.most_tours x) (sym same) was.searching,
+      record {
+        cheaper = subst (λ (x : Search). x.best.cost ≤ c.args.self.now.best.cost) (sym same) was.cheaper;
+        few = subst (λ (x : Search). x.done ≤ c.args.rounds) (sym same) was.few;
+        sums = λ z h. subst (λ (x : Search). AllInTree (IsAtLeast z) s x.tree.branches) (sym same) (was.sums z h);
+      },
+    )

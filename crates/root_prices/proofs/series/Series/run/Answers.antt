@@ -1,4 +1,6 @@
 use Rattle.std.proofs.Common.{◌∙◌, arith}
+use Rattle.std.proofs.lemmas.Result.{err_from_is_err_and}
+use Rattle.pricing_rounds.proofs.Interruptions.{passed_memory}
 use Rattle.root_prices.proofs.series.Series.run.Goals as goal
 
 pub loop-turn-preserved : goal.loop-turn-preserved
@@ -36,3 +38,8 @@ turn-requires-clause-most_tours g c κs within = c.requires.most_tours
 
 pub turn-requires-clause-desks : goal.turn-requires-clause-desks
 turn-requires-clause-desks g c κs within = c.loop-turn.invariant.desks
+
+pub returns-in_err-turn-clause-goes_on : goal.returns-in_err-turn-clause-goes_on
+returns-in_err-turn-clause-goes_on g c going =
+    let passed = err_from_is_err_and c.from_residual.result c.from_residual.ensures.1 in
+    passed_memory c.from_residual.result c.in_err-turn.field-0.0 passed.0 passed.1 passed.2 (c.in_err-turn.ensures.goes_on going)

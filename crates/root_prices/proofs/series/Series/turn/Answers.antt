@@ -1,4 +1,6 @@
 use Rattle.root_prices.proofs.SeriesLaws.{can_take, series_count, series_step}
+use Rattle.std.proofs.lemmas.Result.{err_from_is_err_and}
+use Rattle.pricing_rounds.proofs.Interruptions.{passed_memory}
 use Rattle.root_prices.proofs.series.Series.turn.Goals as goal
 
 pub take-requires : goal.take-requires
@@ -39,3 +41,8 @@ price-requires-clause-most_tours g c κs within = c.requires.most_tours
 
 pub price-requires-clause-desks : goal.price-requires-clause-desks
 price-requires-clause-desks g c κs within = c.requires.desks
+
+pub returns-in_err-cars-clause-goes_on : goal.returns-in_err-cars-clause-goes_on
+returns-in_err-cars-clause-goes_on g c going =
+    let passed = err_from_is_err_and c.from_residual.result c.from_residual.ensures.1 in
+    passed_memory c.from_residual.result c.in_err-cars.field-0.0 passed.0 passed.1 passed.2 (c.in_err-cars.ensures.goes_on going)
