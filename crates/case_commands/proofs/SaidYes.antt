@@ -105,23 +105,23 @@ numbers_close name numbers test short small few =
     }
 
 -- within the default limits
-closes : (s : Snapshot) (rounds moves limit cost bound printed : ℕ) (tree : List Twig) (why : StopReason)
-    → ((c : ℕ) → c < car_count s → (spec_of s c).id < 2 ^ 32) → rounds ≤ 2000 → moves ≤ 75000 → limit ≤ 1000000000
-    → IsReason s rounds moves cost bound tree why → (solved : Bool) → IsClosing (closing_line s (ending_of why limit solved))
-closes s rounds moves limit cost bound printed tree why ids few_rounds few_moves few_claims reason true =
+closes : (s : Snapshot) (rounds most_tours limit cost bound printed : ℕ) (tree : List Twig) (why : StopReason)
+    → ((c : ℕ) → c < car_count s → (spec_of s c).id < 2 ^ 32) → rounds ≤ 2000 → most_tours ≤ 75000 → limit ≤ 1000000000
+    → IsReason s rounds most_tours cost bound tree why → (solved : Bool) → IsClosing (closing_line s (ending_of why limit solved))
+closes s rounds most_tours limit cost bound printed tree why ids few_rounds few_moves few_claims reason true =
     record { text = codes " solved"; closing_is = refl; no_line = tested_no_end (codes " solved") refl; short = lit< tt }
-closes s rounds moves limit cost bound printed tree Solved ids few_rounds few_moves few_claims reason false =
+closes s rounds most_tours limit cost bound printed tree Solved ids few_rounds few_moves few_claims reason false =
     let small : limit < 2 ^ 32 = omega (arith, few_claims) in
     numbers_close (codes " stopped claims") (limit ∷ []) refl (lit< tt) (small, tt) (lit< tt)
-closes s rounds moves limit cost bound printed tree (Rounds done) ids few_rounds few_moves few_claims reason false =
+closes s rounds most_tours limit cost bound printed tree (Rounds done) ids few_rounds few_moves few_claims reason false =
     let done_is = reason.limit in
     let small : done < 2 ^ 32 = omega (arith, done_is, few_rounds) in
     numbers_close (codes " stopped rounds") (done ∷ []) refl (lit< tt) (small, tt) (lit< tt)
-closes s rounds moves limit cost bound printed tree (Moves car count) ids few_rounds few_moves few_claims reason false =
+closes s rounds most_tours limit cost bound printed tree (Moves car count) ids few_rounds few_moves few_claims reason false =
     let count_is = reason.limit in
     let small : count < 2 ^ 32 = omega (arith, count_is, few_moves) in
     numbers_close (codes " stopped moves") ((spec_of s car).id ∷ count ∷ []) refl (lit< tt) (ids car reason.is_car, (small, tt)) (lit< tt)
-closes s rounds moves limit cost bound printed tree Told ids few_rounds few_moves few_claims reason false = absurd reason
+closes s rounds most_tours limit cost bound printed tree Told ids few_rounds few_moves few_claims reason false = absurd reason
 
 -- ---- the verdict
 

@@ -31,12 +31,12 @@ pub cars-le : (s : Snapshot) → IsAccepted s → car_count s ≤ 16
 cars-le s accepted = let high = accepted.building.cars_high in omega (arith, high, most_cars-le s.building.version)
 
 -- where the status of a search is done, its cost is its bound
-cost_is_bound : (s : Snapshot) (rounds moves cost bound : ℕ) (tree : List Twig) (why : StopReason) → status_of why ≡ Done
-    → IsReason s rounds moves cost bound tree why → cost ≡ bound
-cost_is_bound s rounds moves cost bound tree Solved e reason = reason
-cost_is_bound s rounds moves cost bound tree (Rounds done) e reason = absurd (cc e)
-cost_is_bound s rounds moves cost bound tree (Moves car count) e reason = absurd (cc e)
-cost_is_bound s rounds moves cost bound tree Told e reason = absurd reason
+cost_is_bound : (s : Snapshot) (rounds most_tours cost bound : ℕ) (tree : List Twig) (why : StopReason) → status_of why ≡ Done
+    → IsReason s rounds most_tours cost bound tree why → cost ≡ bound
+cost_is_bound s rounds most_tours cost bound tree Solved e reason = reason
+cost_is_bound s rounds most_tours cost bound tree (Rounds done) e reason = absurd (cc e)
+cost_is_bound s rounds most_tours cost bound tree (Moves car count) e reason = absurd (cc e)
+cost_is_bound s rounds most_tours cost bound tree Told e reason = absurd reason
 
 -- a plan whose cost is a bound that a tree proves is optimal
 best_plan : (s : Snapshot) (plan : List (List Stop)) (cost bound : ℕ) (tree : List Twig) → IsAccepted s → Proves s plan cost bound tree → cost ≡ bound
@@ -51,10 +51,10 @@ best_plan s plan cost bound tree accepted proves same =
     }
 
 -- so is that of a search that is done
-pub optimal : (s : Snapshot) (rounds moves : ℕ) (plan : List (List Stop)) (cost bound : ℕ) (tree : List Twig) (turns : List Turn) (why : StopReason)
-    → IsAccepted s → IsSolveAnswer s rounds moves plan cost bound tree turns why → (status : Status) → status ≡ status_of why → status ≡ Done → IsOptimal s plan
-optimal s rounds moves plan cost bound tree turns why accepted answer status is done =
-    best_plan s plan cost bound tree accepted answer.proves (cost_is_bound s rounds moves cost bound tree why (sym is ∙ done) answer.reason)
+pub optimal : (s : Snapshot) (rounds most_tours : ℕ) (plan : List (List Stop)) (cost bound : ℕ) (tree : List Twig) (turns : List Turn) (why : StopReason)
+    → IsAccepted s → IsSolveAnswer s rounds most_tours plan cost bound tree turns why → (status : Status) → status ≡ status_of why → status ≡ Done → IsOptimal s plan
+optimal s rounds most_tours plan cost bound tree turns why accepted answer status is done =
+    best_plan s plan cost bound tree accepted answer.proves (cost_is_bound s rounds most_tours cost bound tree why (sym is ∙ done) answer.reason)
 
 -- what is done is solved
 solved_where_done : (why : StopReason) (limit : ℕ) (solved : Bool) → status_of_ending (ending_of why limit solved) ≡ Done → solved ≡ true

@@ -10,7 +10,7 @@ use Rattle.search_model.specs.declared.StopReason.{StopReason}
 use Rattle.search_model.specs.declared.StopReason.TheVariants.{Solved, Rounds, Moves, Told}
 use Rattle.search_model.specs.Cases.{case_building, case_snapshot}
 use Rattle.search_model.specs.Solving.{IsSolveAnswer, IsReason}
-use Rattle.search_model.specs.Verdicts.{rounds_enough, moves_enough}
+use Rattle.search_model.specs.Verdicts.{rounds_enough, tours_enough}
 use Rattle.building_text.proofs.TravelLemmas.{same_travel}
 use Rattle.lift_words.specs.declared.request.CaseSizes.{CaseSizes}
 use Rattle.lift_words.specs.declared.request.RunOptions.{RunOptions}
@@ -39,8 +39,8 @@ module _ (sizes : CaseSizes) where
 
 -- ---- what the status tells
 
-module _ (s : Snapshot) (rounds moves cost bound : ℕ) (tree : List Twig) (status : Status) where
-  done_at : (why : StopReason) → status ≡ status_of why → IsReason s rounds moves cost bound tree why → (status ≡ Done) ↔ (cost ≡ bound)
+module _ (s : Snapshot) (rounds most_tours cost bound : ℕ) (tree : List Twig) (status : Status) where
+  done_at : (why : StopReason) → status ≡ status_of why → IsReason s rounds most_tours cost bound tree why → (status ≡ Done) ↔ (cost ≡ bound)
   done_at Solved is reason = (λ _. reason, λ _. is)
   done_at (Rounds done) is reason =
       (λ e. (let never : Stopped ≡ Done = sym is ∙ e in absurd cc), λ e. (let below = reason.below in absurd (omega (arith, e, below))))
@@ -48,7 +48,7 @@ module _ (s : Snapshot) (rounds moves cost bound : ℕ) (tree : List Twig) (stat
       (λ e. (let never : Stopped ≡ Done = sym is ∙ e in absurd cc), λ e. (let below = reason.below in absurd (omega (arith, e, below))))
   done_at Told is reason = absurd reason
 
-  stopped_at : (why : StopReason) → status ≡ status_of why → IsReason s rounds moves cost bound tree why → (status ≡ Stopped) ↔ (bound < cost)
+  stopped_at : (why : StopReason) → status ≡ status_of why → IsReason s rounds most_tours cost bound tree why → (status ≡ Stopped) ↔ (bound < cost)
   stopped_at Solved is reason = (λ e. (let never : Done ≡ Stopped = sym is ∙ e in absurd cc), λ below. absurd (omega (arith, reason, below)))
   stopped_at (Rounds done) is reason = (λ _. reason.below, λ _. is)
   stopped_at (Moves car count) is reason = (λ _. reason.below, λ _. is)
@@ -89,11 +89,11 @@ module _ (options : RunOptions) (status : Status) (text : List ℕ) (solved : Is
 
   -- the lines that were put, unless the sink failed
   pub is_case_solved : (result : Status) → result ≡ status
-      → ((s : Snapshot) → IsCaseOf options.sizes s → rounds_enough s ≤ options.limits.rounds → moves_enough s ≤ options.limits.most_tours → status ≡ Done)
+      → ((s : Snapshot) → IsCaseOf options.sizes s → rounds_enough s ≤ options.limits.rounds → tours_enough s ≤ options.limits.most_tours → status ≡ Done)
       → IsCaseSolved options result
   is_case_solved result put enough = record {
     ended = elim is_ended [ inl done ↦ first (put ∙ done) | inr stopped ↦ second (put ∙ stopped) ];
-    enough = λ s case rounds moves. inl (put ∙ enough s case rounds moves);
+    enough = λ s case rounds most_tours. inl (put ∙ enough s case rounds most_tours);
   }
     where
       first : result ≡ Done → (result ≡ Done) ⊎ (result ≡ Stopped) ⊎ (result ≡ Memory)

@@ -10,7 +10,7 @@ use Rattle.search_model.specs.declared.Turn.{Turn}
 use Rattle.search_model.specs.declared.StopReason.{StopReason}
 use Rattle.search_model.specs.declared.StopReason.TheVariants.{Solved, Rounds, Moves, Told}
 use Rattle.search_model.specs.Solving.{IsSolveAnswer}
-use Rattle.search_model.specs.Verdicts.{rounds_enough, moves_enough}
+use Rattle.search_model.specs.Verdicts.{rounds_enough, tours_enough}
 use Rattle.search_model.specs.Cases.{IsCase}
 use Rattle.lift_words.specs.declared.request.CaseSizes.{CaseSizes}
 use Rattle.lift_words.specs.declared.request.RunOptions.{RunOptions}
@@ -90,5 +90,5 @@ SolvedCaseDue options Memory text = ⊥
 -- The case is solved within the limits, or memory is wanting; and where the limits are enough for it, no limit is reached.
 pub record IsCaseSolved (options : RunOptions) (status : Status) : Type 0 where
   pub ended : (status ≡ Done) ⊎ (status ≡ Stopped) ⊎ (status ≡ Memory)
-  pub enough : (s : Snapshot) → IsCaseOf options.sizes s → rounds_enough s ≤ options.limits.rounds → moves_enough s ≤ options.limits.most_tours
+  pub enough : (s : Snapshot) → IsCaseOf options.sizes s → rounds_enough s ≤ options.limits.rounds → tours_enough s ≤ options.limits.most_tours
       → (status ≡ Done) ⊎ (status ≡ Memory)

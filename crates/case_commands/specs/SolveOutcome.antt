@@ -22,7 +22,7 @@ use Rattle.search_model.specs.declared.StopReason.TheVariants.{Solved, Rounds, M
 use Rattle.case_commands.specs.declared.endings.Ending.{Ending}
 use Rattle.case_commands.specs.declared.endings.Ending.TheVariants.{IsSolved, OfRounds, OfMoves, OfTime, OfClaims}
 use Rattle.search_model.specs.Solving.{IsSolveAnswer}
-use Rattle.search_model.specs.Verdicts.{rounds_enough, moves_enough, verdict_of}
+use Rattle.search_model.specs.Verdicts.{rounds_enough, tours_enough, verdict_of}
 use Rattle.certified_search.specs.Certified.{AreClaimsEnough, IsCertified}
 use Rattle.lift_words.specs.declared.request.SolveOptions.{SolveOptions}
 use Rattle.byte_streams.specs.Streams.{Rose}
@@ -142,7 +142,7 @@ SolveDue options left left' Memory text = ⊥
 -- the limits are enough for the snapshot: those of the search, and for a certificate also the limit of claims
 pub record AreEnough (options : SolveOptions) (s : Snapshot) : Type 0 where
   pub rounds : rounds_enough s ≤ options.limits.rounds
-  pub moves : moves_enough s ≤ options.limits.most_tours
+  pub moves : tours_enough s ≤ options.limits.most_tours
   pub claims : options.brief ≡ false → AreClaimsEnough options.limits.rounds options.claims s
 
 -- The input is the text of a snapshot, so a plan is answered, unless the source or the sink fails or memory is wanting;

@@ -2,7 +2,7 @@
 ghost use Rattle.std.specs.Prelude.{◌≡◌, ◌≤◌, ◌⊎◌, ℕ, List, Option, IfOk};
 ghost use Rattle.byte_streams.specs.Streams.{Rose};
 ghost use Rattle.elevator_model.specs.Snapshot.{IsAccepted, Snapshot as SnapshotLem};
-ghost use Rattle.search_model.specs.Verdicts.{moves_enough, rounds_enough};
+ghost use Rattle.search_model.specs.Verdicts.{tours_enough, rounds_enough};
 ghost use Rattle.lift_words.specs.Taken.{AreCaseSizes, AreRunOptions};
 ghost use Rattle.command_ends.specs.Ends.{Ends, streams};
 ghost use Rattle.case_commands.specs.MakeOutcome.{IsCaseOf, IsCaseSolved, IsMadeCase, IsSolvedCase, MakeDue};
@@ -77,7 +77,7 @@ fn solved_case<C: SearchCrew, G: Gate>(
     requires { AreRunOptions options }
     ensures solved { IfOk result (λ answer. IsSolvedCase options answer.status answer.text.items) }
     ensures enough { (s : SnapshotLem) → IsCaseOf options.sizes s
-        → rounds_enough s ≤ options.limits.rounds → moves_enough s ≤ options.limits.most_tours
+        → rounds_enough s ≤ options.limits.rounds → tours_enough s ≤ options.limits.most_tours
         → IfOk result (λ answer. answer.status ≡ Status.Done) }
 {
     let sizes = options.sizes;

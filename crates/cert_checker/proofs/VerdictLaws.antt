@@ -31,7 +31,7 @@ use Rattle.search_model.specs.Prices.{IsWorth, value_of}
 use Rattle.search_model.specs.Certificates.{TreePlace, Placed, has_whole_lists, sum_of_leaf, sum_needed, price_in, worth_in, claim_in, places_after}
 use Rattle.search_model.specs.Certificates.{placed_from, placed_twigs, root_place, IsSoundLeaf, IsSound}
 use Rattle.search_model.specs.Verdicts.{tour_under_at, first_under, kept_at, reason_of_visit, reason_of_car, reason_of_cars, reason_of_leaf, reason_of_twig}
-use Rattle.search_model.specs.Verdicts.{reason_of_tree, reason_of_plan, reason_of_cost, verdict_for, verdict_of, FitsClaims, VerdictLaw, moves_enough}
+use Rattle.search_model.specs.Verdicts.{reason_of_tree, reason_of_plan, reason_of_cost, verdict_for, verdict_of, FitsClaims, VerdictLaw, tours_enough}
 use Rattle.search_model.proofs.SetLemmas.{has-rest_of}
 use Rattle.search_model.proofs.NodeLemmas.{part-from, set_of-set, set_of-other}
 use Rattle.search_model.proofs.SnapshotNodes.{root_is_node}
@@ -306,7 +306,7 @@ enough_fits s (place ∷ places) (Tip leaf ∷ twigs) enough =
     All-cons (Fits s) (record { place = place; twig = twig }) (placed_from places twigs) (λ c lt. few c lt (here c lt))
     (enough_fits s places twigs (All-tail (HasEnough s) twig twigs enough))
   where
-    few : (c : ℕ) → c < car_count s → moves_enough s ≤ claim_in leaf c → length (kept_at s place.node leaf c) ≤ claim_in leaf c
+    few : (c : ℕ) → c < car_count s → tours_enough s ≤ claim_in leaf c → length (kept_at s place.node leaf c) ≤ claim_in leaf c
     few c lt claim =
         let short = tested_lists-few s c (allows place.node c)
         (is_kept s c (price_in leaf) (allows place.node c) (requires_of place.node c) (worth_in leaf c)) lt in

@@ -7,12 +7,12 @@ use Rattle.search_model.specs.declared.Twig.{Twig}
 use Rattle.search_model.specs.declared.Twig.TheVariants.{Split, Leaf as Tip}
 use Rattle.search_model.specs.declared.Verdict.TheVariants.{Yes}
 use Rattle.search_model.specs.Certificates.{Proves, claim_in, is_whole}
-use Rattle.search_model.specs.Verdicts.{moves_enough, verdict_of}
+use Rattle.search_model.specs.Verdicts.{tours_enough, verdict_of}
 
 -- the claims of a leaf are sufficient for any search
 abbrev pub HasEnough : Snapshot → Twig → Type 0
 HasEnough s (Split j part) = Unit {0}
-HasEnough s (Tip leaf) = (c : ℕ) → c < car_count s → moves_enough s ≤ claim_in leaf c
+HasEnough s (Tip leaf) = (c : ℕ) → c < car_count s → tours_enough s ≤ claim_in leaf c
 
 -- With sufficient claims the verdict is yes exactly where the tree proves the plan, its cost and the bound.
 abbrev pub SufficientLaw : Type 0

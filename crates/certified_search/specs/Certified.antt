@@ -4,7 +4,7 @@ use Rattle.elevator_model.specs.Snapshot.{Snapshot, car_count}
 use Rattle.search_model.specs.declared.Stated.{Stated}
 use Rattle.search_model.specs.declared.Twig.{Twig}
 use Rattle.search_model.specs.Certificates.{Placed, Proves, placed_twigs}
-use Rattle.search_model.specs.Verdicts.{moves_enough}
+use Rattle.search_model.specs.Verdicts.{tours_enough}
 use Rattle.cert_claims.specs.Due.{StatesDue, claims_of_tree, due_of_tree, most_of_tree}
 use Rattle.cert_claims.specs.Stating.{DifferInClaims}
 
@@ -21,4 +21,4 @@ pub record IsCertified (s : Snapshot) (limit : ℕ) (stated : Stated) (tree : Li
 -- The limit of claims is enough for any search of the snapshot within these rounds: it has as many for each car at each
 -- leaf as the car can have partial tours.
 abbrev pub AreClaimsEnough : (rounds limit : ℕ) → Snapshot → Type 0
-AreClaimsEnough rounds limit s = (8 * rounds + 1) * (car_count s * moves_enough s) ≤ limit
+AreClaimsEnough rounds limit s = (8 * rounds + 1) * (car_count s * tours_enough s) ≤ limit

@@ -8,7 +8,7 @@ use Rattle.search_model.specs.declared.StopReason.{StopReason}
 use Rattle.search_model.specs.declared.StopReason.TheVariants.{Solved}
 use Rattle.search_model.specs.Certificates.{Proves}
 use Rattle.search_model.specs.Solving.{IsReason, IsSolveAnswer}
-use Rattle.search_model.specs.Verdicts.{rounds_enough, moves_enough}
+use Rattle.search_model.specs.Verdicts.{rounds_enough, tours_enough}
 use Rattle.search_model.proofs.TreeLemmas.{proves-bound}
 use Rattle.tour_cost.proofs.Served.{cars-le}
 use Rattle.day_simulator.specs.Planning.{IsRightPlan}
@@ -23,11 +23,11 @@ right-plan s stated tree accepted proves = record {
   bound = proves-bound s stated.plan stated.cost stated.bound tree (cars-le s accepted) proves;
 }
 
-module _ (rounds moves : ℕ) (s : Snapshot) (accepted : IsAccepted s) (found : Stated) (tree : List Twig) (turns : List Turn) (why : StopReason)
-    (answer : IsSolveAnswer s rounds moves found.plan found.cost found.bound tree turns why)
-    (enough : rounds_enough s ≤ rounds → moves_enough s ≤ moves → why ≡ Solved) where
+module _ (rounds most_tours : ℕ) (s : Snapshot) (accepted : IsAccepted s) (found : Stated) (tree : List Twig) (turns : List Turn) (why : StopReason)
+    (answer : IsSolveAnswer s rounds most_tours found.plan found.cost found.bound tree turns why)
+    (enough : rounds_enough s ≤ rounds → tours_enough s ≤ most_tours → why ≡ Solved) where
   -- what is stated as it was found, and not written
-  pub solved-row : (proof : List ℕ) → proof ≡ [] → IsSolvedPlan rounds moves None s found proof
+  pub solved-row : (proof : List ℕ) → proof ≡ [] → IsSolvedPlan rounds most_tours None s found proof
   solved-row proof none = record {
     accepted = accepted;
     right_plan = right-plan s found tree accepted answer.proves;
@@ -43,7 +43,7 @@ module _ (rounds moves : ℕ) (s : Snapshot) (accepted : IsAccepted s) (found : 
   -- what is written with its certificate
   pub certified-row : (limit bound : ℕ) (proof : List ℕ)
       → IsCertifiedRow s limit found tree (record { plan = found.plan; cost = found.cost; bound = bound }) proof
-      → IsSolvedPlan rounds moves (Some limit) s (record { plan = found.plan; cost = found.cost; bound = bound }) proof
+      → IsSolvedPlan rounds most_tours (Some limit) s (record { plan = found.plan; cost = found.cost; bound = bound }) proof
   certified-row limit bound proof written = record {
     accepted = accepted;
     right_plan = right-plan s (record { plan = found.plan; cost = found.cost; bound = bound }) written.certificate accepted written.certified.proves;
@@ -58,11 +58,11 @@ module _ (rounds moves : ℕ) (s : Snapshot) (accepted : IsAccepted s) (found : 
 
   -- and so it is as it is stated
   pub certified-row-as : (limit : ℕ) (stated : Stated) (proof : List ℕ) → stated.plan ≡ found.plan → stated.cost ≡ found.cost
-      → IsCertifiedRow s limit found tree stated proof → IsSolvedPlan rounds moves (Some limit) s stated proof
+      → IsCertifiedRow s limit found tree stated proof → IsSolvedPlan rounds most_tours (Some limit) s stated proof
   certified-row-as limit stated proof plan cost written =
       let same : record { plan = found.plan; cost = found.cost; bound = stated.bound } ≡ stated =
       λ i. record { plan = sym plan i; cost = sym cost i; bound = stated.bound } in
-      subst (λ (x : Stated). IsSolvedPlan rounds moves (Some limit) s x proof) same
+      subst (λ (x : Stated). IsSolvedPlan rounds most_tours (Some limit) s x proof) same
       (certified-row limit stated.bound proof (subst (λ (x : Stated). IsCertifiedRow s limit found tree x proof) (sym same) written))
 
 -- no limit is none
@@ -71,17 +71,17 @@ none-there None none = refl
 none-there (Some most) none = absurd (none most refl)
 
 -- where the limits are enough, the bound that is stated is the one that the search found
-same-bound : (rounds moves : ℕ) (claims : Option ℕ) (s : Snapshot) (stated : Stated) (proof : List ℕ) (row : IsSolvedPlan rounds moves claims s stated proof)
-    → AreEnoughFor rounds moves claims s → stated.bound ≡ row.bound
-same-bound rounds moves None s stated proof row enough = row.written.0
-same-bound rounds moves (Some limit) s stated proof row enough =
+same-bound : (rounds most_tours : ℕ) (claims : Option ℕ) (s : Snapshot) (stated : Stated) (proof : List ℕ) (row : IsSolvedPlan rounds most_tours claims s stated proof)
+    → AreEnoughFor rounds most_tours claims s → stated.bound ≡ row.bound
+same-bound rounds most_tours None s stated proof row enough = row.written.0
+same-bound rounds most_tours (Some limit) s stated proof row enough =
     let found : Stated = record { plan = stated.plan; cost = stated.cost; bound = row.bound } in
     certified_same rounds limit s found row.tree stated.bound row.written.certificate row.written.certified row.answer.twigs enough.claims_are
 
 -- and it is the cost
-pub solved-where-enough : (rounds moves : ℕ) (claims : Option ℕ) (s : Snapshot) (stated : Stated) (proof : List ℕ)
-    → IsSolvedPlan rounds moves claims s stated proof → AreEnoughFor rounds moves claims s → stated.cost ≡ stated.bound
-solved-where-enough rounds moves claims s stated proof row enough =
-    let why = row.enough enough.rounds_are enough.moves_are in
-    let equal : stated.cost ≡ row.bound = subst (λ (w : StopReason). IsReason s rounds moves stated.cost row.bound row.tree w) why row.answer.reason in
-    equal ∙ sym (same-bound rounds moves claims s stated proof row enough)
+pub solved-where-enough : (rounds most_tours : ℕ) (claims : Option ℕ) (s : Snapshot) (stated : Stated) (proof : List ℕ)
+    → IsSolvedPlan rounds most_tours claims s stated proof → AreEnoughFor rounds most_tours claims s → stated.cost ≡ stated.bound
+solved-where-enough rounds most_tours claims s stated proof row enough =
+    let why = row.enough enough.rounds_are enough.most_tours_are in
+    let equal : stated.cost ≡ row.bound = subst (λ (w : StopReason). IsReason s rounds most_tours stated.cost row.bound row.tree w) why row.answer.reason in
+    equal ∙ sym (same-bound rounds most_tours claims s stated proof row enough)

@@ -8,16 +8,16 @@ use Rattle.search_model.specs.declared.Turn.{Turn}
 use Rattle.search_model.specs.declared.StopReason.{StopReason}
 use Rattle.search_model.specs.declared.StopReason.TheVariants.{Solved}
 use Rattle.search_model.specs.Solving.{IsSolveAnswer}
-use Rattle.search_model.specs.Verdicts.{rounds_enough, moves_enough}
+use Rattle.search_model.specs.Verdicts.{rounds_enough, tours_enough}
 use Rattle.answer_text.specs.Texts.{answer_text}
 use Rattle.cert_text.specs.Texts.{cert_text}
 use Rattle.certified_search.specs.Certified.{AreClaimsEnough, IsCertified}
 use Rattle.day_simulator.specs.Planning.{IsRightPlan}
 
 -- the limits are enough for a search of the snapshot, and the limit of claims is, where certificates are written
-pub record AreEnoughFor (rounds moves : ℕ) (claims : Option ℕ) (s : Snapshot) : Type 0 where
+pub record AreEnoughFor (rounds most_tours : ℕ) (claims : Option ℕ) (s : Snapshot) : Type 0 where
   pub rounds_are : rounds_enough s ≤ rounds
-  pub moves_are : moves_enough s ≤ moves
+  pub most_tours_are : tours_enough s ≤ most_tours
   pub claims_are : IfSome claims (λ limit. AreClaimsEnough rounds limit s)
 
 -- A plan that a search found with a tree, written as an answer with the certificate that proves the bound that is stated;
@@ -34,7 +34,7 @@ IsWritten (Some limit) s found tree stated proof = IsCertifiedRow s limit found 
 
 -- A right plan of an accepted snapshot, its cost and a bound as a search answers them within these limits, written in full
 -- where the claims of certificates have a limit. Where the limits are enough for the snapshot, none was reached.
-pub record IsSolvedPlan (rounds moves : ℕ) (claims : Option ℕ) (s : Snapshot) (stated : Stated) (proof : List ℕ) : Type 0 where
+pub record IsSolvedPlan (rounds most_tours : ℕ) (claims : Option ℕ) (s : Snapshot) (stated : Stated) (proof : List ℕ) : Type 0 where
   pub accepted : IsAccepted s
   pub right_plan : IsRightPlan s stated
   -- the bound that the search found
@@ -42,10 +42,10 @@ pub record IsSolvedPlan (rounds moves : ℕ) (claims : Option ℕ) (s : Snapshot
   pub tree : List Twig
   pub turns : List Turn
   pub why : StopReason
-  pub answer : IsSolveAnswer s rounds moves stated.plan stated.cost bound tree turns why
-  pub enough : rounds_enough s ≤ rounds → moves_enough s ≤ moves → why ≡ Solved
+  pub answer : IsSolveAnswer s rounds most_tours stated.plan stated.cost bound tree turns why
+  pub enough : rounds_enough s ≤ rounds → tours_enough s ≤ most_tours → why ≡ Solved
   pub written : IsWritten claims s (record { plan = stated.plan; cost = stated.cost; bound = bound }) tree stated proof
 
 -- What a search within these limits answers at an accepted row, whatever plan held before.
-abbrev pub IsSolvedRow : (rounds moves : ℕ) (claims : Option ℕ) → Snapshot → (held : List (List Stop)) → Stated → (proof : List ℕ) → Type 0
-IsSolvedRow rounds moves claims s held stated proof = IsSolvedPlan rounds moves claims s stated proof
+abbrev pub IsSolvedRow : (rounds most_tours : ℕ) (claims : Option ℕ) → Snapshot → (held : List (List Stop)) → Stated → (proof : List ℕ) → Type 0
+IsSolvedRow rounds most_tours claims s held stated proof = IsSolvedPlan rounds most_tours claims s stated proof

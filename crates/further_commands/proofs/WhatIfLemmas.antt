@@ -53,9 +53,9 @@ done_or_stopped extras Read is = absurd is
 done_or_stopped extras Write is = absurd is
 done_or_stopped extras Memory is = absurd is
 
-pub is_told : (s : Snapshot) (rounds moves : ℕ) (extras : List Extra) (regret : Regret) (status : Status) (text : List ℕ) → AreExtras s rounds moves extras
-    → IsRegret s extras regret → IsStatusOf extras status → text ≡ what_if_text s extras regret → IsTold s rounds moves status text
-is_told s rounds moves extras regret status text are is status_is is_text = record {
+pub is_told : (s : Snapshot) (rounds most_tours : ℕ) (extras : List Extra) (regret : Regret) (status : Status) (text : List ℕ) → AreExtras s rounds most_tours extras
+    → IsRegret s extras regret → IsStatusOf extras status → text ≡ what_if_text s extras regret → IsTold s rounds most_tours status text
+is_told s rounds most_tours extras regret status text are is status_is is_text = record {
   extras = extras;
   regret = regret;
   are_extras = are;
@@ -66,19 +66,19 @@ is_told s rounds moves extras regret status text are is status_is is_text = reco
 
 -- ---- what is due
 
-pub ends_told : (rounds moves : ℕ) (left left' : Option (List ℕ)) (old new : Streams) (text : List ℕ) (status result : Status)
-    → AnswerIsDue rounds moves left left' status text → Puts text status result old.taken new.taken old.write_faults new.write_faults
-    → Ends (WhatIfDue rounds moves left left') old new result
-ends_told rounds moves left left' old new text Done result due put =
-    ends_put (WhatIfDue rounds moves left left') old new text Done result due (λ wrote. wrote) put
-ends_told rounds moves left left' old new text Stopped result due put =
-    ends_put (WhatIfDue rounds moves left left') old new text Stopped result due (λ wrote. wrote) put
-ends_told rounds moves left left' old new text Words result due put = absurd due.told.status_is
-ends_told rounds moves left left' old new text Refused result due put = absurd due.told.status_is
-ends_told rounds moves left left' old new text Input result due put = absurd due.told.status_is
-ends_told rounds moves left left' old new text Read result due put = absurd due.told.status_is
-ends_told rounds moves left left' old new text Write result due put = absurd due.told.status_is
-ends_told rounds moves left left' old new text Memory result due put = absurd due.told.status_is
+pub ends_told : (rounds most_tours : ℕ) (left left' : Option (List ℕ)) (old new : Streams) (text : List ℕ) (status result : Status)
+    → AnswerIsDue rounds most_tours left left' status text → Puts text status result old.taken new.taken old.write_faults new.write_faults
+    → Ends (WhatIfDue rounds most_tours left left') old new result
+ends_told rounds most_tours left left' old new text Done result due put =
+    ends_put (WhatIfDue rounds most_tours left left') old new text Done result due (λ wrote. wrote) put
+ends_told rounds most_tours left left' old new text Stopped result due put =
+    ends_put (WhatIfDue rounds most_tours left left') old new text Stopped result due (λ wrote. wrote) put
+ends_told rounds most_tours left left' old new text Words result due put = absurd due.told.status_is
+ends_told rounds most_tours left left' old new text Refused result due put = absurd due.told.status_is
+ends_told rounds most_tours left left' old new text Input result due put = absurd due.told.status_is
+ends_told rounds most_tours left left' old new text Read result due put = absurd due.told.status_is
+ends_told rounds most_tours left left' old new text Write result due put = absurd due.told.status_is
+ends_told rounds most_tours left left' old new text Memory result due put = absurd due.told.status_is
 
 -- what is wrong with the input, where it is known
 abbrev IsWrong : Option (List ℕ) → AskFault → Type 0
@@ -104,26 +104,26 @@ refusal_due : (left left' : Option (List ℕ)) (fault : AskFault) (text : List �
 refusal_due left left' fault text is_line refused shows =
     record { fault = fault; is_line = is_line; read = refusal_told left fault text is_line refused; shows = shows }
 
-pub ends_refused : (rounds moves : ℕ) (left left' : Option (List ℕ)) (fault : AskFault) (old new : Streams) (result : Status)
+pub ends_refused : (rounds most_tours : ℕ) (left left' : Option (List ℕ)) (fault : AskFault) (old new : Streams) (result : Status)
     → IsRefusedAsked (option_map whole_text left) fault → AskFaultShows (option_map whole_text left) fault left'
     → (fault ≡ Text FailedRead → Rose old.read_faults new.read_faults)
-    → PutsAskFault fault result old.taken new.taken old.write_faults new.write_faults → Ends (WhatIfDue rounds moves left left') old new result
-ends_refused rounds moves left left' (Text fault) old new result refused shows rose put =
-    ends_fault (WhatIfDue rounds moves left left') fault old new result (λ text is_line. refusal_due left left' (Text fault) text is_line refused shows)
+    → PutsAskFault fault result old.taken new.taken old.write_faults new.write_faults → Ends (WhatIfDue rounds most_tours left left') old new result
+ends_refused rounds most_tours left left' (Text fault) old new result refused shows rose put =
+    ends_fault (WhatIfDue rounds most_tours left left') fault old new result (λ text is_line. refusal_due left left' (Text fault) text is_line refused shows)
     (λ e. rose (ap Text e)) put
-ends_refused rounds moves left left' (NothingAsked line) old new result refused shows rose put =
-    ends_line (WhatIfDue rounds moves left left') (IsNothingAskedLine line) old new result
+ends_refused rounds most_tours left left' (NothingAsked line) old new result refused shows rose put =
+    ends_line (WhatIfDue rounds most_tours left left') (IsNothingAskedLine line) old new result
     (λ text is_line. refusal_due left left' (NothingAsked line) text is_line refused shows) put
 
 -- ---- when
 
 -- the answer that was put, unless the sink failed
-pub is_answered : (snapshot s : Snapshot) (rounds moves : ℕ) (text : List ℕ) (status result : Status) → snapshot ≡ s → IsTold snapshot rounds moves status text
-    → (AreEnough snapshot rounds moves → status ≡ Done) → result ≡ status → IsAnswered s rounds moves result
-is_answered snapshot s rounds moves text status result same told enough put =
+pub is_answered : (snapshot s : Snapshot) (rounds most_tours : ℕ) (text : List ℕ) (status result : Status) → snapshot ≡ s → IsTold snapshot rounds most_tours status text
+    → (AreEnough snapshot rounds most_tours → status ≡ Done) → result ≡ status → IsAnswered s rounds most_tours result
+is_answered snapshot s rounds most_tours text status result same told enough put =
     record {
       ended = elim (done_or_stopped told.extras status told.status_is) [ inl done ↦ first (put ∙ done) | inr stopped ↦ second (put ∙ stopped) ];
-      enough = λ all. inl (put ∙ enough (subst (λ (x : Snapshot). AreEnough x rounds moves) (sym same) all));
+      enough = λ all. inl (put ∙ enough (subst (λ (x : Snapshot). AreEnough x rounds most_tours) (sym same) all));
     }
   where
     first : result ≡ Done → (result ≡ Done) ⊎ (result ≡ Stopped) ⊎ (result ≡ Memory)
@@ -132,8 +132,8 @@ is_answered snapshot s rounds moves text status result same told enough put =
     second : result ≡ Stopped → (result ≡ Done) ⊎ (result ≡ Stopped) ⊎ (result ≡ Memory)
     second e = inr (inl e)
 
-pub out_of_memory : (s : Snapshot) (rounds moves : ℕ) (result : Status) → result ≡ Memory → IsAnswered s rounds moves result
-out_of_memory s rounds moves result is = record { ended = inr (inr is); enough = λ all. inr is }
+pub out_of_memory : (s : Snapshot) (rounds most_tours : ℕ) (result : Status) → result ≡ Memory → IsAnswered s rounds most_tours result
+out_of_memory s rounds most_tours result is = record { ended = inr (inr is); enough = λ all. inr is }
 
 -- where the input is such a case, memory ran out
 pub asked_memory : (s : Snapshot) (fault : AskFault) (result : Status) (old new : Option (List ℕ)) (before after : ℕ)

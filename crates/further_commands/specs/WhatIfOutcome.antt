@@ -57,10 +57,10 @@ IsStatusOf extras Memory = ⊥
 
 -- The text tells what the last call costs with each car, as searches within these limits answer it, and what it costs to
 -- send the nearest car.
-pub record IsTold (s : Snapshot) (rounds moves : ℕ) (status : Status) (text : List ℕ) : Type 0 where
+pub record IsTold (s : Snapshot) (rounds most_tours : ℕ) (status : Status) (text : List ℕ) : Type 0 where
   pub extras : List Extra
   pub regret : Regret
-  pub are_extras : AreExtras s rounds moves extras
+  pub are_extras : AreExtras s rounds most_tours extras
   pub is_regret : IsRegret s extras regret
   pub status_is : IsStatusOf extras status
   pub is_text : text ≡ what_if_text s extras regret
@@ -68,13 +68,13 @@ pub record IsTold (s : Snapshot) (rounds moves : ℕ) (status : Status) (text : 
 -- ---- how the command ends
 
 -- The text is due where the whole input was read and is a case whose last call is asked about.
-pub record AnswerIsDue (rounds moves : ℕ) (left left' : Option (List ℕ)) (status : Status) (text : List ℕ) : Type 0 where
+pub record AnswerIsDue (rounds most_tours : ℕ) (left left' : Option (List ℕ)) (status : Status) (text : List ℕ) : Type 0 where
   pub snapshot : Snapshot
   pub accepted : IsAccepted snapshot
   pub asked : HasAskedCall snapshot
   pub read : (input : List ℕ) → left ≡ Some input → IsAskedCaseText input snapshot
   pub ended : IsAtEnd left'
-  pub told : IsTold snapshot rounds moves status text
+  pub told : IsTold snapshot rounds most_tours status text
 
 -- the line that tells the first bad line and its code, that the input is too long, or that nothing can be asked about
 abbrev pub IsAskRefusal : AskFault → List ℕ → Type 0
@@ -90,15 +90,15 @@ pub record RefusalIsDue (left left' : Option (List ℕ)) (text : List ℕ) : Typ
   pub shows : AskFaultShows (option_map whole_text left) fault left'
 
 -- the texts of `whatif`, by what the source had left before it and has left behind it
-abbrev pub WhatIfDue : (rounds moves : ℕ) → (left left' : Option (List ℕ)) → DueTexts
-WhatIfDue rounds moves left left' Done text = AnswerIsDue rounds moves left left' Done text
-WhatIfDue rounds moves left left' Words text = ⊥
-WhatIfDue rounds moves left left' Stopped text = AnswerIsDue rounds moves left left' Stopped text
-WhatIfDue rounds moves left left' Refused text = ⊥
-WhatIfDue rounds moves left left' Input text = RefusalIsDue left left' text
-WhatIfDue rounds moves left left' Read text = ⊥
-WhatIfDue rounds moves left left' Write text = ⊥
-WhatIfDue rounds moves left left' Memory text = ⊥
+abbrev pub WhatIfDue : (rounds most_tours : ℕ) → (left left' : Option (List ℕ)) → DueTexts
+WhatIfDue rounds most_tours left left' Done text = AnswerIsDue rounds most_tours left left' Done text
+WhatIfDue rounds most_tours left left' Words text = ⊥
+WhatIfDue rounds most_tours left left' Stopped text = AnswerIsDue rounds most_tours left left' Stopped text
+WhatIfDue rounds most_tours left left' Refused text = ⊥
+WhatIfDue rounds most_tours left left' Input text = RefusalIsDue left left' text
+WhatIfDue rounds most_tours left left' Read text = ⊥
+WhatIfDue rounds most_tours left left' Write text = ⊥
+WhatIfDue rounds most_tours left left' Memory text = ⊥
 
 -- how an input is answered that was not taken
 abbrev pub PutsAskFault : AskFault → (result : Status) → (old new : Option (List ℕ)) → (before after : ℕ) → Type 0
@@ -109,15 +109,15 @@ PutsAskFault (NothingAsked line) result old new before after = PutsNothingAsked 
 
 -- It is told what the last call costs with each car, or memory is wanting; and where the limits are enough for each of the
 -- searches, no limit is reached.
-pub record IsAnswered (s : Snapshot) (rounds moves : ℕ) (status : Status) : Type 0 where
+pub record IsAnswered (s : Snapshot) (rounds most_tours : ℕ) (status : Status) : Type 0 where
   pub ended : (status ≡ Done) ⊎ (status ≡ Stopped) ⊎ (status ≡ Memory)
-  pub enough : AreEnough s rounds moves → (status ≡ Done) ⊎ (status ≡ Memory)
+  pub enough : AreEnough s rounds most_tours → (status ≡ Done) ⊎ (status ≡ Memory)
 
 -- the input is a case whose last call is asked about, so it is answered, unless the source or the sink fails or memory is
 -- wanting
-abbrev pub AnswersAsked : (rounds moves : ℕ) → (old new : Streams) → Status → Type 0
-AnswersAsked rounds moves old new status = (input : List ℕ) (s : Snapshot) → old.left ≡ Some input → IsAskedCaseText input s
-    → (Rose old.read_faults new.read_faults → ⊥) → (Rose old.write_faults new.write_faults → ⊥) → IsAnswered s rounds moves status
+abbrev pub AnswersAsked : (rounds most_tours : ℕ) → (old new : Streams) → Status → Type 0
+AnswersAsked rounds most_tours old new status = (input : List ℕ) (s : Snapshot) → old.left ≡ Some input → IsAskedCaseText input s
+    → (Rose old.read_faults new.read_faults → ⊥) → (Rose old.write_faults new.write_faults → ⊥) → IsAnswered s rounds most_tours status
 
 -- the input is nothing of the kind, so it is refused, unless the source or the sink fails or memory is wanting
 abbrev pub RefusesUnasked : (old new : Streams) → Status → Type 0

@@ -46,11 +46,11 @@ told_status logs status is = elim (either_status logs) [ inl done ↦ inl (is �
 
 -- ---- what is due
 
-pub ends_told : (rounds moves : ℕ) (left left' : Option (List ℕ)) (old new : Streams) (text : List ℕ) (status result : Status)
-    → LogsAreDue rounds moves left left' status text → Puts text status result old.taken new.taken old.write_faults new.write_faults
-    → Ends (BanksDue rounds moves left left') old new result
-ends_told rounds moves left left' old new text status result due put =
-    ends_either (BanksDue rounds moves left left') old new text Done Stopped status result (λ (x : Status). LogsAreDue rounds moves left left' x text)
+pub ends_told : (rounds most_tours : ℕ) (left left' : Option (List ℕ)) (old new : Streams) (text : List ℕ) (status result : Status)
+    → LogsAreDue rounds most_tours left left' status text → Puts text status result old.taken new.taken old.write_faults new.write_faults
+    → Ends (BanksDue rounds most_tours left left') old new result
+ends_told rounds most_tours left left' old new text status result due put =
+    ends_either (BanksDue rounds most_tours left left') old new text Done Stopped status result (λ (x : Status). LogsAreDue rounds most_tours left left' x text)
     (λ d. d) (λ wrote. wrote) (λ d. d) (λ wrote. wrote) (told_status due.told.logs status due.told.status_is) due put
 
 -- what is wrong with the input, where it is known
@@ -79,18 +79,18 @@ refusal_due : (left left' : Option (List ℕ)) (fault : BankFault) (text : List 
 refusal_due left left' fault text is_line refused shows =
     record { fault = fault; is_line = is_line; read = refusal_told left fault text is_line refused; shows = shows }
 
-pub ends_refused : (rounds moves : ℕ) (left left' : Option (List ℕ)) (fault : BankFault) (old new : Streams) (result : Status)
+pub ends_refused : (rounds most_tours : ℕ) (left left' : Option (List ℕ)) (fault : BankFault) (old new : Streams) (result : Status)
     → AreBanksRefused (option_map whole_text left) fault → BankFaultShows (option_map whole_text left) fault left'
     → (fault ≡ Text FailedRead → Rose old.read_faults new.read_faults)
-    → PutsBankFault fault result old.taken new.taken old.write_faults new.write_faults → Ends (BanksDue rounds moves left left') old new result
-ends_refused rounds moves left left' (Text fault) old new result refused shows rose put =
-    ends_fault (BanksDue rounds moves left left') fault old new result (λ text is_line. refusal_due left left' (Text fault) text is_line refused shows)
+    → PutsBankFault fault result old.taken new.taken old.write_faults new.write_faults → Ends (BanksDue rounds most_tours left left') old new result
+ends_refused rounds most_tours left left' (Text fault) old new result refused shows rose put =
+    ends_fault (BanksDue rounds most_tours left left') fault old new result (λ text is_line. refusal_due left left' (Text fault) text is_line refused shows)
     (λ e. rose (ap Text e)) put
-ends_refused rounds moves left left' (UsedId line) old new result refused shows rose put =
-    ends_line (BanksDue rounds moves left left') (IsUsedIdLine line) old new result
+ends_refused rounds most_tours left left' (UsedId line) old new result refused shows rose put =
+    ends_line (BanksDue rounds most_tours left left') (IsUsedIdLine line) old new result
     (λ text is_line. refusal_due left left' (UsedId line) text is_line refused shows) put
-ends_refused rounds moves left left' (TooMany line) old new result refused shows rose put =
-    ends_line (BanksDue rounds moves left left') (IsTooManyBanksLine line) old new result
+ends_refused rounds most_tours left left' (TooMany line) old new result refused shows rose put =
+    ends_line (BanksDue rounds most_tours left left') (IsTooManyBanksLine line) old new result
     (λ text is_line. refusal_due left left' (TooMany line) text is_line refused shows) put
 
 -- ---- when

@@ -46,20 +46,20 @@ abbrev pub status_of_logs : List BankLog → Status
 status_of_logs logs = if list_any (λ log. log.is_stopped) logs then Stopped else Done
 
 -- The text has the log of each bank's day over its own rows, with plans as searches within these limits answer them.
-pub record AreTold (rounds moves : ℕ) (banks : BankInput) (status : Status) (text : List ℕ) : Type 0 where
+pub record AreTold (rounds most_tours : ℕ) (banks : BankInput) (status : Status) (text : List ℕ) : Type 0 where
   pub logs : List BankLog
-  pub are_logs : AreBankLogs (IsSolvedRow rounds moves None) banks.banks.items logs
+  pub are_logs : AreBankLogs (IsSolvedRow rounds most_tours None) banks.banks.items logs
   pub status_is : status ≡ status_of_logs logs
   pub is_text : text ≡ banks_text (ids_of banks.banks.items) (texts_of logs) banks.strays
 
 -- ---- how the command ends
 
 -- The text is due where the whole input was read and is the text of banks.
-pub record LogsAreDue (rounds moves : ℕ) (left left' : Option (List ℕ)) (status : Status) (text : List ℕ) : Type 0 where
+pub record LogsAreDue (rounds most_tours : ℕ) (left left' : Option (List ℕ)) (status : Status) (text : List ℕ) : Type 0 where
   pub banks : BankInput
   pub read : (input : List ℕ) → left ≡ Some input → IsBanksText input (views_of banks.banks.items) banks.strays
   pub ended : IsAtEnd left'
-  pub told : AreTold rounds moves banks status text
+  pub told : AreTold rounds most_tours banks status text
 
 -- the line that tells the first bad line and its code, or that the input is too long
 abbrev pub IsBankRefusal : BankFault → List ℕ → Type 0
@@ -76,15 +76,15 @@ pub record BankRefusalIsDue (left left' : Option (List ℕ)) (text : List ℕ) :
   pub shows : BankFaultShows (option_map whole_text left) fault left'
 
 -- the texts of `banks`, by what the source had left before it and has left behind it
-abbrev pub BanksDue : (rounds moves : ℕ) → (left left' : Option (List ℕ)) → DueTexts
-BanksDue rounds moves left left' Done text = LogsAreDue rounds moves left left' Done text
-BanksDue rounds moves left left' Words text = ⊥
-BanksDue rounds moves left left' Stopped text = LogsAreDue rounds moves left left' Stopped text
-BanksDue rounds moves left left' Refused text = ⊥
-BanksDue rounds moves left left' Input text = BankRefusalIsDue left left' text
-BanksDue rounds moves left left' Read text = ⊥
-BanksDue rounds moves left left' Write text = ⊥
-BanksDue rounds moves left left' Memory text = ⊥
+abbrev pub BanksDue : (rounds most_tours : ℕ) → (left left' : Option (List ℕ)) → DueTexts
+BanksDue rounds most_tours left left' Done text = LogsAreDue rounds most_tours left left' Done text
+BanksDue rounds most_tours left left' Words text = ⊥
+BanksDue rounds most_tours left left' Stopped text = LogsAreDue rounds most_tours left left' Stopped text
+BanksDue rounds most_tours left left' Refused text = ⊥
+BanksDue rounds most_tours left left' Input text = BankRefusalIsDue left left' text
+BanksDue rounds most_tours left left' Read text = ⊥
+BanksDue rounds most_tours left left' Write text = ⊥
+BanksDue rounds most_tours left left' Memory text = ⊥
 
 -- how an input is answered that was not taken
 abbrev pub PutsBankFault : BankFault → (result : Status) → (old new : Option (List ℕ)) → (before after : ℕ) → Type 0

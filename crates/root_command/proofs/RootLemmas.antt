@@ -47,9 +47,9 @@ best_of Gap e = absurd (cc e)
 best_of (Moves car count) e = absurd (cc e)
 best_of (Pairs count) e = absurd (cc e)
 
-pub is_told : (s : Snapshot) (rounds moves : ℕ) (answer : RootAnswer) (status : Status) (text : List ℕ) → IsRootSolution s rounds moves answer
-    → status ≡ status_of answer.why → text ≡ root_text s answer → IsRootTold s rounds moves status text
-is_told s rounds moves answer status text is status_is is_text = record {
+pub is_told : (s : Snapshot) (rounds most_tours : ℕ) (answer : RootAnswer) (status : Status) (text : List ℕ) → IsRootSolution s rounds most_tours answer
+    → status ≡ status_of answer.why → text ≡ root_text s answer → IsRootTold s rounds most_tours status text
+is_told s rounds most_tours answer status text is status_is is_text = record {
   answer = answer;
   solution = is;
   status_is = status_is;
@@ -64,20 +64,20 @@ done_or_stopped Gap = inr refl
 done_or_stopped (Moves car count) = inr refl
 done_or_stopped (Pairs count) = inr refl
 
-either_of : (s : Snapshot) (rounds moves : ℕ) (status : Status) (text : List ℕ) → IsRootTold s rounds moves status text → (status ≡ Done) ⊎ (status ≡ Stopped)
-either_of s rounds moves status text told = elim (done_or_stopped told.answer.why) [
+either_of : (s : Snapshot) (rounds most_tours : ℕ) (status : Status) (text : List ℕ) → IsRootTold s rounds most_tours status text → (status ≡ Done) ⊎ (status ≡ Stopped)
+either_of s rounds most_tours status text told = elim (done_or_stopped told.answer.why) [
   | inl done ↦ inl (told.status_is ∙ done)
   | inr stopped ↦ inr (told.status_is ∙ stopped)
 ]
 
 -- ---- what is due
 
-pub ends_told : (rounds moves : ℕ) (left left' : Option (List ℕ)) (old new : Streams) (text : List ℕ) (status result : Status)
-    → RootAnswerIsDue rounds moves left left' status text → Puts text status result old.taken new.taken old.write_faults new.write_faults
-    → Ends (RootDue rounds moves left left') old new result
-ends_told rounds moves left left' old new text status result due put =
-    ends_either (RootDue rounds moves left left') old new text Done Stopped status result (λ (x : Status). RootAnswerIsDue rounds moves left left' x text)
-    (λ h. h) (λ wrote. wrote) (λ h. h) (λ wrote. wrote) (either_of due.snapshot rounds moves status text due.told) due put
+pub ends_told : (rounds most_tours : ℕ) (left left' : Option (List ℕ)) (old new : Streams) (text : List ℕ) (status result : Status)
+    → RootAnswerIsDue rounds most_tours left left' status text → Puts text status result old.taken new.taken old.write_faults new.write_faults
+    → Ends (RootDue rounds most_tours left left') old new result
+ends_told rounds most_tours left left' old new text status result due put =
+    ends_either (RootDue rounds most_tours left left') old new text Done Stopped status result (λ (x : Status). RootAnswerIsDue rounds most_tours left left' x text)
+    (λ h. h) (λ wrote. wrote) (λ h. h) (λ wrote. wrote) (either_of due.snapshot rounds most_tours status text due.told) due put
 
 -- what is wrong with the input, where it is known
 abbrev IsWrong : Option (List ℕ) → TextFault → Type 0
@@ -103,9 +103,9 @@ refusal_due left left' fault text is_line refused shows =
 
 -- ---- when
 
-pub is_answered : (s : Snapshot) (rounds moves : ℕ) (text : List ℕ) (status result : Status) → IsRootTold s rounds moves status text → result ≡ status
+pub is_answered : (s : Snapshot) (rounds most_tours : ℕ) (text : List ℕ) (status result : Status) → IsRootTold s rounds most_tours status text → result ≡ status
     → (result ≡ Done) ⊎ (result ≡ Stopped) ⊎ (result ≡ Memory)
-is_answered s rounds moves text status result told put = elim (either_of s rounds moves status text told) [
+is_answered s rounds most_tours text status result told put = elim (either_of s rounds most_tours status text told) [
   | inl done ↦ inl (put ∙ done)
   | inr stopped ↦ inr (inl (put ∙ stopped))
 ]

@@ -29,9 +29,9 @@ status_of (Pairs count) = Stopped
 
 -- The text tells what this many turns at the root answer, within this limit. With Done, the mixture that is written shows
 -- that no prices and worths at the root have a greater bound.
-pub record IsRootTold (s : Snapshot) (rounds moves : ℕ) (status : Status) (text : List ℕ) : Type 0 where
+pub record IsRootTold (s : Snapshot) (rounds most_tours : ℕ) (status : Status) (text : List ℕ) : Type 0 where
   pub answer : RootAnswer
-  pub solution : IsRootSolution s rounds moves answer
+  pub solution : IsRootSolution s rounds most_tours answer
   pub status_is : status ≡ status_of answer.why
   pub is_text : text ≡ root_text s answer
   pub mixture : IsMixture s answer.shares 2 answer.cost
@@ -40,12 +40,12 @@ pub record IsRootTold (s : Snapshot) (rounds moves : ℕ) (status : Status) (tex
 -- ---- how the command ends
 
 -- The text is due where the whole input was read and is the text of an accepted snapshot.
-pub record RootAnswerIsDue (rounds moves : ℕ) (left left' : Option (List ℕ)) (status : Status) (text : List ℕ) : Type 0 where
+pub record RootAnswerIsDue (rounds most_tours : ℕ) (left left' : Option (List ℕ)) (status : Status) (text : List ℕ) : Type 0 where
   pub snapshot : Snapshot
   pub accepted : IsAccepted snapshot
   pub read : (input : List ℕ) → left ≡ Some input → IsCaseText input snapshot
   pub ended : IsAtEnd left'
-  pub told : IsRootTold snapshot rounds moves status text
+  pub told : IsRootTold snapshot rounds most_tours status text
 
 -- The refusal line is due where the input is no such text, with what is wrong with it, and where the end of the line that
 -- it names shows in the bytes that were taken.
@@ -56,15 +56,15 @@ pub record RootRefusalIsDue (left left' : Option (List ℕ)) (text : List ℕ) :
   pub shows : FaultShows (option_map whole_text left) fault left'
 
 -- the texts of `root`, by what the source had left before it and has left behind it
-abbrev pub RootDue : (rounds moves : ℕ) → (left left' : Option (List ℕ)) → DueTexts
-RootDue rounds moves left left' Done text = RootAnswerIsDue rounds moves left left' Done text
-RootDue rounds moves left left' Words text = ⊥
-RootDue rounds moves left left' Stopped text = RootAnswerIsDue rounds moves left left' Stopped text
-RootDue rounds moves left left' Refused text = ⊥
-RootDue rounds moves left left' Input text = RootRefusalIsDue left left' text
-RootDue rounds moves left left' Read text = ⊥
-RootDue rounds moves left left' Write text = ⊥
-RootDue rounds moves left left' Memory text = ⊥
+abbrev pub RootDue : (rounds most_tours : ℕ) → (left left' : Option (List ℕ)) → DueTexts
+RootDue rounds most_tours left left' Done text = RootAnswerIsDue rounds most_tours left left' Done text
+RootDue rounds most_tours left left' Words text = ⊥
+RootDue rounds most_tours left left' Stopped text = RootAnswerIsDue rounds most_tours left left' Stopped text
+RootDue rounds most_tours left left' Refused text = ⊥
+RootDue rounds most_tours left left' Input text = RootRefusalIsDue left left' text
+RootDue rounds most_tours left left' Read text = ⊥
+RootDue rounds most_tours left left' Write text = ⊥
+RootDue rounds most_tours left left' Memory text = ⊥
 
 -- ---- when it ends so
 

@@ -45,17 +45,17 @@ abbrev pub AreApart : (bound : ℤ) → (cost : ℕ) → Type 0
 AreApart bound cost = (pos 2 *ℤ bound) <ℤ pos cost
 
 -- the car was spent in some turn, and so has at least this many partial tours
-pub record IsCarSpent (s : Snapshot) (moves : ℕ) (turns : List Turn) (bound : ℤ) (cost car count : ℕ) : Type 0 where
+pub record IsCarSpent (s : Snapshot) (most_tours : ℕ) (turns : List Turn) (bound : ℤ) (cost car count : ℕ) : Type 0 where
   pub apart : AreApart bound cost
-  pub limit : count ≡ moves
+  pub limit : count ≡ most_tours
   pub is_car : car < car_count s
   pub spent : IsSpentIn turns car
   pub many : HasPartialTours s (root_of s) car count
 
 -- no car was spent, and there are at least this many partial pairings of the kept lists
-pub record ArePairsSpent (s : Snapshot) (moves : ℕ) (turns : List Turn) (lists : List (List (List Stop))) (bound : ℤ) (cost count : ℕ) : Type 0 where
+pub record ArePairsSpent (s : Snapshot) (most_tours : ℕ) (turns : List Turn) (lists : List (List (List Stop))) (bound : ℤ) (cost count : ℕ) : Type 0 where
   pub apart : AreApart bound cost
-  pub limit : count ≡ moves
+  pub limit : count ≡ most_tours
   pub unspent : All (IsUnspent s) turns
   pub many : count ≤ pairing_count lists
 
@@ -66,11 +66,11 @@ pub record IsGap (s : Snapshot) (turns : List Turn) (lists : List (List (List St
   pub cheapest : (pairs : ℕ → Pair) → IsPairPlan s lists pairs → cost ≤ pair_plan_cost s lists pairs
 
 -- Best exactly where the cost is at most twice the bound; the others say what is left open.
-abbrev pub IsRootReason : Snapshot → (moves : ℕ) → List Turn → (lists : List (List (List Stop))) → (bound : ℤ) → (cost : ℕ) → RootReason → Type 0
-IsRootReason s moves turns lists bound cost Best = pos cost ≤ℤ (pos 2 *ℤ bound)
-IsRootReason s moves turns lists bound cost Gap = IsGap s turns lists bound cost
-IsRootReason s moves turns lists bound cost (Moves car count) = IsCarSpent s moves turns bound cost car count
-IsRootReason s moves turns lists bound cost (Pairs count) = ArePairsSpent s moves turns lists bound cost count
+abbrev pub IsRootReason : Snapshot → (most_tours : ℕ) → List Turn → (lists : List (List (List Stop))) → (bound : ℤ) → (cost : ℕ) → RootReason → Type 0
+IsRootReason s most_tours turns lists bound cost Best = pos cost ≤ℤ (pos 2 *ℤ bound)
+IsRootReason s most_tours turns lists bound cost Gap = IsGap s turns lists bound cost
+IsRootReason s most_tours turns lists bound cost (Moves car count) = IsCarSpent s most_tours turns bound cost car count
+IsRootReason s most_tours turns lists bound cost (Pairs count) = ArePairsSpent s most_tours turns lists bound cost count
 
 -- ---- the answer
 
@@ -79,8 +79,8 @@ abbrev pub IsGreatestAtRoot : Snapshot → (bound : ℤ) → Type 0
 IsGreatestAtRoot s bound = (leaf : Leaf) → IsRootLeaf s leaf → bound_of_leaf leaf ≤ℤ bound
 
 -- What turns at the root answer that start with a feasible plan and with these prices and worths.
-pub record IsRootAnswer (s : Snapshot) (plan : List (List Stop)) (first : PriceSheet) (rounds moves : ℕ) (a : RootAnswer) : Type 0 where
-  pub root_turns : AreRootTurns s moves first.prices a.turns
+pub record IsRootAnswer (s : Snapshot) (plan : List (List Stop)) (first : PriceSheet) (rounds most_tours : ℕ) (a : RootAnswer) : Type 0 where
+  pub root_turns : AreRootTurns s most_tours first.prices a.turns
   pub count : length a.turns ≡ rounds
   pub sheet : IsBestSheet s first a.turns a.sheet
   pub bound_is : a.bound ≡ rounded_up (sum_of_sheet a.sheet)
@@ -88,7 +88,7 @@ pub record IsRootAnswer (s : Snapshot) (plan : List (List Stop)) (first : PriceS
   pub kept : AreKeptLists s plan a.turns lists
   pub halves : ArePairShares s lists a.shares a.cost
   pub at_most : a.cost ≤ 2 * plan_cost_of s plan
-  pub reason : IsRootReason s moves a.turns lists a.bound a.cost a.why
+  pub reason : IsRootReason s most_tours a.turns lists a.bound a.cost a.why
   -- laws of these, so that whoever reads this needs no others
   pub mixture : IsMixture s a.shares 2 a.cost
   pub greatest : a.why ≡ Best → IsGreatestAtRoot s a.bound

@@ -16,7 +16,7 @@ use Rattle.elevator_model.specs.Snapshot.{Snapshot, car_count, call_count, group
 use Rattle.elevator_model.specs.Tours.{rider_count, is_aboard}
 use Rattle.elevator_model.specs.Partial.{Course, course_start, move_on, all_moves, lawful_moves, boards_allowed}
 use Rattle.search_model.specs.Orders.{lists_at, lists_from, tested_lists, move_limit, partial_tours, any_course}
-use Rattle.search_model.specs.Verdicts.{most_aboard, moves_enough}
+use Rattle.search_model.specs.Verdicts.{most_aboard, tours_enough}
 
 length-filter-le : {X : Type 0} (p : X → Bool) (xs : List X) → length (filter p xs) ≤ length xs
 length-filter-le p [] = omega arith
@@ -140,7 +140,7 @@ move_limit-le s c h =
 
 -- A car has fewer partial tours that pass any test than the sufficient limit, so fewer kept ones too.
 pub tested_lists-few : (s : Snapshot) (c : ℕ) (allowed : ℕ → Bool) (keep : Course → Bool) → c < car_count s
-    → length (tested_lists s c allowed keep) < moves_enough s
+    → length (tested_lists s c allowed keep) < tours_enough s
 tested_lists-few s c allowed keep h =
     let b = most_next s in
     let n = 3 * call_count s + sum_where (rider_count s) (is_aboard s c) (λ _. 1) in
@@ -152,9 +152,9 @@ tested_lists-few s c allowed keep h =
     let same : (b + 1) ^ move_limit s c ≡ (b + 1) ^ suc (suc n) = ap (λ (i : ℕ). (b + 1) ^ i) limit in
     let grown = pow-le-pow_right {n = b + 1} (omega arith) (move_limit-le s c h) in
     let base : b + 1 ≡ call_count s + floor_count s.building + 2 = omega arith in
-    let enough : (b + 1) ^ (3 * call_count s + most_aboard s (car_count s) + 2) ≡ moves_enough s =
+    let enough : (b + 1) ^ (3 * call_count s + most_aboard s (car_count s) + 2) ≡ tours_enough s =
     ap (λ (i : ℕ). i ^ (3 * call_count s + most_aboard s (car_count s) + 2)) base in
     omega (arith, all, spread_of, less, same, grown, enough)
 
-pub partial_tours-few : (s : Snapshot) (c : ℕ) (allowed : ℕ → Bool) → c < car_count s → length (partial_tours s c allowed) < moves_enough s
+pub partial_tours-few : (s : Snapshot) (c : ℕ) (allowed : ℕ → Bool) → c < car_count s → length (partial_tours s c allowed) < tours_enough s
 partial_tours-few s c allowed h = tested_lists-few s c allowed any_course h

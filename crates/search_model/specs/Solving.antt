@@ -98,14 +98,14 @@ pub record IsExact (s : Snapshot) (c : ℕ) (price : ℕ → ℤ) (t : TurnOf) :
   pub has_it : value_of s c price tour ≡ t.priced.worth
 
 -- the pricing tried as many partial tours as it may, so the worth may be less
-pub record IsSpent (s : Snapshot) (moves c : ℕ) (price : ℕ → ℤ) (t : TurnOf) : Type 0 where
+pub record IsSpent (s : Snapshot) (most_tours c : ℕ) (price : ℕ → ℤ) (t : TurnOf) : Type 0 where
   pub worth : IsWorth s (root_of s) c price t.priced.worth
   pub within : IfSome t.tour (λ (tour : List Stop). IsTourIn s (root_of s) c tour)
-  pub many : HasPartialTours s (root_of s) c moves
+  pub many : HasPartialTours s (root_of s) c most_tours
 
-abbrev pub IsPricing : Snapshot → (moves c : ℕ) → (price : ℕ → ℤ) → TurnOf → (spent : Bool) → Type 0
-IsPricing s moves c price t true = IsSpent s moves c price t
-IsPricing s moves c price t false = IsExact s c price t
+abbrev pub IsPricing : Snapshot → (most_tours c : ℕ) → (price : ℕ → ℤ) → TurnOf → (spent : Bool) → Type 0
+IsPricing s most_tours c price t true = IsSpent s most_tours c price t
+IsPricing s most_tours c price t false = IsExact s c price t
 
 abbrev pub no_turn : TurnOf
 no_turn = record { priced = record { worth = pos 0; visits = 0; spent = false }; tour = None }
@@ -114,21 +114,21 @@ abbrev pub turn_of_car : Turn → ℕ → TurnOf
 turn_of_car turn c = slice_index_or turn.cars c no_turn
 
 -- each car is priced at the root at these prices
-pub record IsRootTurn (s : Snapshot) (moves : ℕ) (given : List ℤ) (turn : Turn) : Type 0 where
+pub record IsRootTurn (s : Snapshot) (most_tours : ℕ) (given : List ℤ) (turn : Turn) : Type 0 where
   pub prices : turn.prices ≡ given
   pub calls : length turn.prices ≡ call_count s
   pub cars : length turn.cars ≡ car_count s
-  pub pricings : (c : ℕ) → c < car_count s → IsPricing s moves c (price_at turn.prices) (turn_of_car turn c) (turn_of_car turn c).priced.spent
+  pub pricings : (c : ℕ) → c < car_count s → IsPricing s most_tours c (price_at turn.prices) (turn_of_car turn c) (turn_of_car turn c).priced.spent
 
 -- the turns that follow turn i
-abbrev pub FollowTurn : Snapshot → (moves : ℕ) → (start : List ℤ) → ℕ → Turn → List Turn → Type 0
-FollowTurn s moves start i turn [] = Unit {0}
-FollowTurn s moves start i turn (next ∷ turns) = IsRootTurn s moves (prices_after s start i turn) next × FollowTurn s moves start (i + 1) next turns
+abbrev pub FollowTurn : Snapshot → (most_tours : ℕ) → (start : List ℤ) → ℕ → Turn → List Turn → Type 0
+FollowTurn s most_tours start i turn [] = Unit {0}
+FollowTurn s most_tours start i turn (next ∷ turns) = IsRootTurn s most_tours (prices_after s start i turn) next × FollowTurn s most_tours start (i + 1) next turns
 
 -- Turns at the root from given prices.
-abbrev pub AreRootTurns : Snapshot → (moves : ℕ) → (start : List ℤ) → List Turn → Type 0
-AreRootTurns s moves start [] = Unit {0}
-AreRootTurns s moves start (turn ∷ turns) = IsRootTurn s moves start turn × FollowTurn s moves start 1 turn turns
+abbrev pub AreRootTurns : Snapshot → (most_tours : ℕ) → (start : List ℤ) → List Turn → Type 0
+AreRootTurns s most_tours start [] = Unit {0}
+AreRootTurns s most_tours start (turn ∷ turns) = IsRootTurn s most_tours start turn × FollowTurn s most_tours start 1 turn turns
 
 abbrev pub sum_of_turn : Turn → ℤ
 sum_of_turn turn = int_sum_by (λ (x : ℤ). x) turn.prices +ℤ int_sum_by (λ (t : TurnOf). t.priced.worth) turn.cars
@@ -147,13 +147,13 @@ pub record ReachesLeast (s : Snapshot) (node : Node) (c : ℕ) (price : ℕ → 
 
 -- The worths of a leaf are those of the node in which it was priced, that of the split just above it, unless
 -- the car has too many partial tours there.
-abbrev pub IsPriced : Snapshot → (moves : ℕ) → TreePlace → Twig → Type 0
-IsPriced s moves place (Split j part) = Unit {0}
-IsPriced s moves place (Tip leaf) =
-    (c : ℕ) → c < car_count s → ReachesLeast s place.above c (price_in leaf) (worth_in leaf c) ⊎ HasPartialTours s place.above c moves
+abbrev pub IsPriced : Snapshot → (most_tours : ℕ) → TreePlace → Twig → Type 0
+IsPriced s most_tours place (Split j part) = Unit {0}
+IsPriced s most_tours place (Tip leaf) =
+    (c : ℕ) → c < car_count s → ReachesLeast s place.above c (price_in leaf) (worth_in leaf c) ⊎ HasPartialTours s place.above c most_tours
 
-abbrev pub IsPricedTree : Snapshot → (moves : ℕ) → List Twig → Type 0
-IsPricedTree s moves tree = All (λ (p : Placed). IsPriced s moves p.place p.twig) (placed_twigs s tree)
+abbrev pub IsPricedTree : Snapshot → (most_tours : ℕ) → List Twig → Type 0
+IsPricedTree s most_tours tree = All (λ (p : Placed). IsPriced s most_tours p.place p.twig) (placed_twigs s tree)
 
 -- ---- reasons
 
@@ -174,28 +174,28 @@ IsEndOf s cost car count place (Split j part) = ⊥
 IsEndOf s cost car count place (Tip leaf) = (bound_of_leaf leaf <ℤ pos cost) × HasPartialTours s place.node car count
 
 -- the rounds reached their limit
-pub record IsOutOfRounds (s : Snapshot) (rounds moves cost bound done : ℕ) (tree : List Twig) : Type 0 where
+pub record IsOutOfRounds (s : Snapshot) (rounds most_tours cost bound done : ℕ) (tree : List Twig) : Type 0 where
   pub below : bound < cost
   pub limit : done ≡ rounds
-  pub priced : IsPricedTree s moves tree
+  pub priced : IsPricedTree s most_tours tree
   -- no node is priced in more than 20 rounds
   pub twigs : done ≤ 20 * length tree
 
 -- nothing is left that a round may take
-pub record IsOutOfMoves (s : Snapshot) (moves cost bound car count : ℕ) (tree : List Twig) : Type 0 where
+pub record IsOutOfMoves (s : Snapshot) (most_tours cost bound car count : ℕ) (tree : List Twig) : Type 0 where
   pub below : bound < cost
-  pub limit : count ≡ moves
-  pub priced : IsPricedTree s moves tree
+  pub limit : count ≡ most_tours
+  pub priced : IsPricedTree s most_tours tree
   pub ends : All (λ (p : Placed). EndsThere s cost count p.place p.twig) (placed_twigs s tree)
   pub is_car : car < car_count s
   pub at_car : Any (λ (p : Placed). IsEndOf s cost car count p.place p.twig) (placed_twigs s tree)
 
 -- Why a search ended by itself.
-abbrev pub IsReason : Snapshot → (rounds moves cost bound : ℕ) → List Twig → StopReason → Type 0
-IsReason s rounds moves cost bound tree Solved = cost ≡ bound
-IsReason s rounds moves cost bound tree (Rounds done) = IsOutOfRounds s rounds moves cost bound done tree
-IsReason s rounds moves cost bound tree (Moves car count) = IsOutOfMoves s moves cost bound car count tree
-IsReason s rounds moves cost bound tree Told = ⊥
+abbrev pub IsReason : Snapshot → (rounds most_tours cost bound : ℕ) → List Twig → StopReason → Type 0
+IsReason s rounds most_tours cost bound tree Solved = cost ≡ bound
+IsReason s rounds most_tours cost bound tree (Rounds done) = IsOutOfRounds s rounds most_tours cost bound done tree
+IsReason s rounds most_tours cost bound tree (Moves car count) = IsOutOfMoves s most_tours cost bound car count tree
+IsReason s rounds most_tours cost bound tree Told = ⊥
 
 -- ---- the answer
 
@@ -209,50 +209,50 @@ HasChoice s =
     (j : ℕ) × (j < call_count s) × (2 ≤ sum_where (car_count s) (λ c. is_possible s c (call_of s j)) (λ _. 1))
 
 -- What a search answers that starts with given prices and with a bound `least` of its own, and that ended for a reason.
-pub record IsEnding (Reason : Type 0) (start : List ℤ) (least : ℤ) (s : Snapshot) (rounds moves : ℕ) (plan : List (List Stop)) (cost bound : ℕ)
+pub record IsEnding (Reason : Type 0) (start : List ℤ) (least : ℤ) (s : Snapshot) (rounds most_tours : ℕ) (plan : List (List Stop)) (cost bound : ℕ)
     (tree : List Twig) (turns : List Turn) : Type 0 where
   pub proves : Proves s plan cost bound tree
   pub best_bound : pos bound ≡ least_bound cost tree
   pub at_least : least ≤ℤ pos bound
   -- a round prices at most four nodes, and only priced nodes are split
   pub twigs : length tree ≤ 8 * rounds + 1
-  pub root_turns : AreRootTurns s moves start turns
+  pub root_turns : AreRootTurns s most_tours start turns
   pub few_turns : length turns ≤ 20
   pub turn_bounds : All (λ (turn : Turn). rounded_up (sum_of_turn turn) ≤ℤ pos bound) turns
   pub many_turns : HasChoice s → IsTrue (list_any is_split tree) ⊎ (bound < cost) → length turns ≡ min rounds 20
   -- no plan made of the tours of the turns is cheaper
-  pub tours : 34 ^ car_count s ≤ moves → (other : List (List Stop)) → IsFeasiblePlan s other
+  pub tours : 34 ^ car_count s ≤ most_tours → (other : List (List Stop)) → IsFeasiblePlan s other
       → ((c : ℕ) → c < car_count s → IsTourOfTurns turns c (tour_of other c)) → cost ≤ plan_cost_of s other
   pub reason : Reason
 
 -- What a search answers that ended by itself.
-abbrev pub IsFound : (start : List ℤ) (least : ℤ) → Snapshot → (rounds moves : ℕ) → List (List Stop) → (cost bound : ℕ) → List Twig → List Turn
+abbrev pub IsFound : (start : List ℤ) (least : ℤ) → Snapshot → (rounds most_tours : ℕ) → List (List Stop) → (cost bound : ℕ) → List Twig → List Turn
     → StopReason → Type 0
-IsFound start least s rounds moves plan cost bound tree turns why =
-    IsEnding (IsReason s rounds moves cost bound tree why) start least s rounds moves plan cost bound tree turns
+IsFound start least s rounds most_tours plan cost bound tree turns why =
+    IsEnding (IsReason s rounds most_tours cost bound tree why) start least s rounds most_tours plan cost bound tree turns
 
 -- What a search answers that was told to stop: what one of fewer rounds answers, for no other reason.
-pub record IsToldAnswer (start : List ℤ) (least : ℤ) (s : Snapshot) (rounds moves : ℕ) (plan : List (List Stop)) (cost bound : ℕ) (tree : List Twig)
+pub record IsToldAnswer (start : List ℤ) (least : ℤ) (s : Snapshot) (rounds most_tours : ℕ) (plan : List (List Stop)) (cost bound : ℕ) (tree : List Twig)
     (turns : List Turn) : Type 0 where
   pub done : ℕ
   pub fewer : done ≤ rounds
-  pub ending : IsEnding (Unit {0}) start least s done moves plan cost bound tree turns
+  pub ending : IsEnding (Unit {0}) start least s done most_tours plan cost bound tree turns
 
 -- What a search answers.
-abbrev pub IsSearchAnswer : (start : List ℤ) (least : ℤ) → Snapshot → (rounds moves : ℕ) → List (List Stop) → (cost bound : ℕ) → List Twig → List Turn
+abbrev pub IsSearchAnswer : (start : List ℤ) (least : ℤ) → Snapshot → (rounds most_tours : ℕ) → List (List Stop) → (cost bound : ℕ) → List Twig → List Turn
     → StopReason → Type 0
-IsSearchAnswer start least s rounds moves plan cost bound tree turns Told = IsToldAnswer start least s rounds moves plan cost bound tree turns
-IsSearchAnswer start least s rounds moves plan cost bound tree turns Solved = IsFound start least s rounds moves plan cost bound tree turns Solved
-IsSearchAnswer start least s rounds moves plan cost bound tree turns (Rounds done) =
-    IsFound start least s rounds moves plan cost bound tree turns (Rounds done)
-IsSearchAnswer start least s rounds moves plan cost bound tree turns (Moves car count) =
-    IsFound start least s rounds moves plan cost bound tree turns (Moves car count)
+IsSearchAnswer start least s rounds most_tours plan cost bound tree turns Told = IsToldAnswer start least s rounds most_tours plan cost bound tree turns
+IsSearchAnswer start least s rounds most_tours plan cost bound tree turns Solved = IsFound start least s rounds most_tours plan cost bound tree turns Solved
+IsSearchAnswer start least s rounds most_tours plan cost bound tree turns (Rounds done) =
+    IsFound start least s rounds most_tours plan cost bound tree turns (Rounds done)
+IsSearchAnswer start least s rounds most_tours plan cost bound tree turns (Moves car count) =
+    IsFound start least s rounds most_tours plan cost bound tree turns (Moves car count)
 
 -- What a snapshot's solution answers: it starts with the least lone costs.
-abbrev pub IsSolveAnswer : Snapshot → (rounds moves : ℕ) → List (List Stop) → (cost bound : ℕ) → List Twig → List Turn → StopReason → Type 0
-IsSolveAnswer s rounds moves plan cost bound tree turns why = IsFound (start_prices s) (pos (floor_of_bound s)) s rounds moves plan cost bound tree turns why
+abbrev pub IsSolveAnswer : Snapshot → (rounds most_tours : ℕ) → List (List Stop) → (cost bound : ℕ) → List Twig → List Turn → StopReason → Type 0
+IsSolveAnswer s rounds most_tours plan cost bound tree turns why = IsFound (start_prices s) (pos (floor_of_bound s)) s rounds most_tours plan cost bound tree turns why
 
 -- And one that may be told to stop.
-abbrev pub IsSnapshotAnswer : Snapshot → (rounds moves : ℕ) → List (List Stop) → (cost bound : ℕ) → List Twig → List Turn → StopReason → Type 0
-IsSnapshotAnswer s rounds moves plan cost bound tree turns why =
-    IsSearchAnswer (start_prices s) (pos (floor_of_bound s)) s rounds moves plan cost bound tree turns why
+abbrev pub IsSnapshotAnswer : Snapshot → (rounds most_tours : ℕ) → List (List Stop) → (cost bound : ℕ) → List Twig → List Turn → StopReason → Type 0
+IsSnapshotAnswer s rounds most_tours plan cost bound tree turns why =
+    IsSearchAnswer (start_prices s) (pos (floor_of_bound s)) s rounds most_tours plan cost bound tree turns why

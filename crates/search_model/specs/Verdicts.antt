@@ -114,5 +114,5 @@ most_aboard s (suc n) = max (most_aboard s n) (sum_where (length s.aboard) (λ k
 abbrev pub rounds_enough : Snapshot → ℕ
 rounds_enough s = 40 * car_count s ^ call_count s
 
-abbrev pub moves_enough : Snapshot → ℕ
-moves_enough s = (call_count s + floor_count s.building + 2) ^ (3 * call_count s + most_aboard s (car_count s) + 2)
+abbrev pub tours_enough : Snapshot → ℕ
+tours_enough s = (call_count s + floor_count s.building + 2) ^ (3 * call_count s + most_aboard s (car_count s) + 2)

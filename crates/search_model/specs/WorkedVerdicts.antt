@@ -17,7 +17,7 @@ use Rattle.search_model.specs.declared.Verdict.{Verdict}
 use Rattle.search_model.specs.declared.Verdict.TheVariants.{Yes, No}
 use Rattle.search_model.specs.Nodes.{root_of}
 use Rattle.search_model.specs.Uneven.{uneven_pair, uneven_plan}
-use Rattle.search_model.specs.Verdicts.{verdict_of, kept_at, rounds_enough, moves_enough}
+use Rattle.search_model.specs.Verdicts.{verdict_of, kept_at, rounds_enough, tours_enough}
 
 abbrev pub one_leaf : List PriceOf → List WorthOf → Leaf
 one_leaf prices worths = record { prices = prices; worths = worths }
@@ -71,11 +71,11 @@ pub record AreClaims : Type 0 where
 
 pub record AreEnough : Type 0 where
   pub rounds : rounds_enough one_call ≡ 40
-  pub moves : moves_enough one_call ≡ 16807
+  pub moves : tours_enough one_call ≡ 16807
   pub rounds_of_two : rounds_enough uneven_pair ≡ 320
   -- one group aboard of one car: 9 ^ 12
-  pub moves_of_two : moves_enough uneven_pair ≡ 282429536481
-  pub moves_of_one : moves_enough rising_group ≡ 117649
+  pub moves_of_two : tours_enough uneven_pair ≡ 282429536481
+  pub moves_of_one : tours_enough rising_group ≡ 117649
 
 -- ---- two cars with uneven numbers, and a split of the last call
 

@@ -32,7 +32,7 @@ use Rattle.search_model.specs.Certificates.{IsSoundLeaf}
 use Rattle.search_model.specs.Solving.{HasPartialTours, EndsThere, IsAtEnd, IsEndOf, IsOutOfRounds, IsOutOfMoves, least_bound, lesser_bound, bound_of_leaf}
 use Rattle.search_model.specs.Solving.{IsEnding, IsFound, IsReason, HasChoice, AreRootTurns, FollowTurn, IsRootTurn, IsPricing, IsTourOfTurns, is_split, no_turn}
 use Rattle.search_model.specs.Solving.{turn_of_car, sum_of_turn, prices_after}
-use Rattle.search_model.specs.Verdicts.{rounds_enough, moves_enough}
+use Rattle.search_model.specs.Verdicts.{rounds_enough, tours_enough}
 use Rattle.call_state.proofs.PossibleLemmas.{most_cars-le}
 use Rattle.search_model.proofs.RoundLemmas.{rounded_up-least}
 use Rattle.search_model.proofs.SetLemmas.{set_where-below, has-rest_of}
@@ -550,16 +550,16 @@ twigs-few s plan cost bound tree accepted proves = by_bound 16 refl
 
 -- no car has as many partial tours in a node as the sufficient limit
 abbrev pub HasFewTours : Snapshot → Type 0
-HasFewTours s = (node : Node) (c n : ℕ) → c < car_count s → HasPartialTours s node c n → n < moves_enough s
+HasFewTours s = (node : Node) (c n : ℕ) → c < car_count s → HasPartialTours s node c n → n < tours_enough s
 
 -- With sufficient limits a search ends solved: its cost is its bound.
 pub enough_is_solved : (start : List ℤ) (least : ℤ) (s : Snapshot) (rounds most_tours : ℕ) (plan : List (List Stop)) (cost bound : ℕ) (tree : List Twig)
-    (turns : List Turn) (why : StopReason) → IsAccepted s → HasFewTours s → rounds_enough s ≤ rounds → moves_enough s ≤ most_tours
+    (turns : List Turn) (why : StopReason) → IsAccepted s → HasFewTours s → rounds_enough s ≤ rounds → tours_enough s ≤ most_tours
     → IsFound start least s rounds most_tours plan cost bound tree turns why → (cost ≡ bound) × (why ≡ Solved)
 enough_is_solved start least s rounds most_tours plan cost bound tree turns why accepted few_tours many_rounds many_moves is =
     by_reason why is.reason
   where
-    at_end : (count car : ℕ) (p : Placed) → moves_enough s ≤ count → car < car_count s → IsEndOf s cost car count p.place p.twig → ⊥
+    at_end : (count car : ℕ) (p : Placed) → tours_enough s ≤ count → car < car_count s → IsEndOf s cost car count p.place p.twig → ⊥
     at_end count car p many lt h = by_twig p.twig h
       where
         by_twig : (twig : Twig) → IsEndOf s cost car count p.place twig → ⊥

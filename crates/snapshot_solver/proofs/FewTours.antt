@@ -8,7 +8,7 @@ use Rattle.elevator_model.specs.Partial.{Course, course_of}
 use Rattle.search_model.specs.Nodes.{Node, allows}
 use Rattle.search_model.specs.Orders.{Each, IsAmongLists, IsPartialTour, partial_tours, any_course}
 use Rattle.search_model.specs.Solving.{HasPartialTours}
-use Rattle.search_model.specs.Verdicts.{moves_enough}
+use Rattle.search_model.specs.Verdicts.{tours_enough}
 use Rattle.search_model.proofs.OrderLemmas.{IsTested, fewer_lists}
 use Rattle.search_model.proofs.ManyLemmas.{partial_tours-few}
 use Rattle.kept_tours.proofs.Found.{tested_all}
@@ -25,7 +25,7 @@ lawful-tested s c allowed w tour = by_course (course_of s c w) refl tour.lawful
     by_course None e some = absurd (both_ways false refl some)
     by_course (Some x) e some = (x, e, refl, tour.allowed_boards)
 
-pub few_tours : (s : Snapshot) (node : Node) (c n : ℕ) → c < car_count s → HasPartialTours s node c n → n < moves_enough s
+pub few_tours : (s : Snapshot) (node : Node) (c n : ℕ) → c < car_count s → HasPartialTours s node c n → n < tours_enough s
 few_tours s node c n lt many =
     let all = tested_all s c (allows node c) any_course (λ moves x y m may ok leads moved passes. refl) in
     let le = fewer_lists many.lists (partial_tours s c (allows node c)) many.order all.order

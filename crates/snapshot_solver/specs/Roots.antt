@@ -10,10 +10,10 @@ use Rattle.root_prices.specs.RootAnswers.{IsRootAnswer}
 use Rattle.snapshot_solver.specs.Starts.{start_worths}
 
 -- Turns from the prices and worths with which a search starts, and from some feasible plan.
-pub record IsRootSolution (s : Snapshot) (rounds moves : ℕ) (a : RootAnswer) : Type 0 where
+pub record IsRootSolution (s : Snapshot) (rounds most_tours : ℕ) (a : RootAnswer) : Type 0 where
   pub plan : List (List Stop)
   pub feasible : IsFeasiblePlan s plan
   pub first : PriceSheet
   pub prices : first.prices ≡ start_prices s
   pub worths : first.worths ≡ start_worths s
-  pub answer : IsRootAnswer s plan first rounds moves a
+  pub answer : IsRootAnswer s plan first rounds most_tours a

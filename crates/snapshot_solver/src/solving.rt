@@ -4,7 +4,7 @@ ghost use Rattle.std.specs.Prelude.{◌≡◌, ◌≤◌, ◌^◌, All, IfOk};
 ghost use Rattle.elevator_model.specs.Plans.{IsFeasiblePlan};
 ghost use Rattle.search_model.specs.declared.StopReason.TheVariants.{Solved};
 ghost use Rattle.search_model.specs.Solving.{IsSnapshotAnswer, IsSolveAnswer};
-ghost use Rattle.search_model.specs.Verdicts.{moves_enough, rounds_enough};
+ghost use Rattle.search_model.specs.Verdicts.{tours_enough, rounds_enough};
 ghost use Rattle.search_tree.specs.Sheets.{IsSizedTwig};
 
 use crate::crews::{ByCrew, SearchCrew};
@@ -41,7 +41,7 @@ pub fn solve_from<C: SearchCrew, G: Gate>(
         f.stated.plan f.stated.cost f.stated.bound f.tree.twigs f.turns f.why) }
     ensures sized { IfOk result (λ f. All IsSizedTwig f.tree.twigs) }
     ensures enough { G.never_stops runtime.now.gate.now
-        → rounds_enough snapshot.now ≤ limits.rounds → moves_enough snapshot.now ≤ limits.most_tours
+        → rounds_enough snapshot.now ≤ limits.rounds → tours_enough snapshot.now ≤ limits.most_tours
         → IfOk result (λ f. f.why ≡ Solved) }
 {
     prove!(snapshot.calls().len() <= MOST_CALLS);
@@ -70,7 +70,7 @@ pub fn solve<C: SearchCrew, G: Gate>(
         f.stated.plan f.stated.cost f.stated.bound f.tree.twigs f.turns f.why) }
     ensures sized { IfOk result (λ f. All IsSizedTwig f.tree.twigs) }
     ensures enough { rounds_enough snapshot.now ≤ limits.rounds
-        → moves_enough snapshot.now ≤ limits.most_tours
+        → tours_enough snapshot.now ≤ limits.most_tours
         → IfOk result (λ f. f.why ≡ Solved) }
 {
     let start = first(runtime.alloc, snapshot, DEFAULT_ROUNDS, &OpenGate)?;

@@ -11,8 +11,8 @@ use Rattle.what_if.specs.WhatIf.{AreEnough, AreExtras, AreSettled, IsExtraOf, Is
 use Rattle.what_if.specs.Ends.{AreExtrasBelow, IsRanged}
 use Rattle.what_if.proofs.ExtraLaws.{enough-settled, takes-has}
 
-pub extras-none : (s : Snapshot) (rounds moves : ℕ) (before : Searched) → AreExtrasBelow s rounds moves before 0 []
-extras-none s rounds moves before = record { count = refl; each = λ c below. absurd (omega (arith, below)); ranged = λ c below. absurd (omega (arith, below)) }
+pub extras-none : (s : Snapshot) (rounds most_tours : ℕ) (before : Searched) → AreExtrasBelow s rounds most_tours before 0 []
+extras-none s rounds most_tours before = record { count = refl; each = λ c below. absurd (omega (arith, below)); ranged = λ c below. absurd (omega (arith, below)) }
 
 -- what holds of each car so far, and of the next one
 one-more : (P : ℕ → Extra → Type 0) (n : ℕ) (extras : List Extra) (x : Extra) → length extras ≡ n → ((c : ℕ) → c < n → P c (extra_at extras c)) → P n x
@@ -24,19 +24,19 @@ one-more P n extras x count each here c below =
       | inr lt ↦ subst (P c) (sym (get_or_append_left extras (x ∷ []) no_extra c (omega (arith, lt, count)))) (each c lt)
     ]
 
-pub extras-more : (s : Snapshot) (rounds moves : ℕ) (before : Searched) (n : ℕ) (extras : List Extra) (x : Extra)
-    → AreExtrasBelow s rounds moves before n extras → IsExtraOf s rounds moves before n x → IsRanged x
-    → AreExtrasBelow s rounds moves before (n + 1) (extras ++ x ∷ [])
-extras-more s rounds moves before n extras x are of ranged =
+pub extras-more : (s : Snapshot) (rounds most_tours : ℕ) (before : Searched) (n : ℕ) (extras : List Extra) (x : Extra)
+    → AreExtrasBelow s rounds most_tours before n extras → IsExtraOf s rounds most_tours before n x → IsRanged x
+    → AreExtrasBelow s rounds most_tours before (n + 1) (extras ++ x ∷ [])
+extras-more s rounds most_tours before n extras x are of ranged =
     record {
       count = length-append extras (x ∷ []) ∙ ap (λ (k : ℕ). k + 1) are.count;
-      each = one-more (IsExtraOf s rounds moves before) n extras x are.count are.each of;
+      each = one-more (IsExtraOf s rounds most_tours before) n extras x are.count are.each of;
       ranged = one-more (λ c y. IsRanged y) n extras x are.count are.ranged ranged;
     }
 
-pub all-ranged : (s : Snapshot) (rounds moves : ℕ) (before : Searched) (n : ℕ) (extras : List Extra) → AreExtrasBelow s rounds moves before n extras → (c : ℕ)
+pub all-ranged : (s : Snapshot) (rounds most_tours : ℕ) (before : Searched) (n : ℕ) (extras : List Extra) → AreExtrasBelow s rounds most_tours before n extras → (c : ℕ)
     → IsRanged (extra_at extras c)
-all-ranged s rounds moves before n extras are c =
+all-ranged s rounds most_tours before n extras are c =
     let count = are.count in
     elim (cases_lt c n) [ inl below ↦ are.ranged c below | inr past ↦ subst IsRanged (sym (get_or_past extras c no_extra (omega (arith, past, count)))) none ]
   where
@@ -47,19 +47,19 @@ all-ranged s rounds moves before n extras are c =
           record { low = omega (arith, ints); high = omega (arith, ints) };
     }
 
-pub extras-of : (s : Snapshot) (rounds moves : ℕ) (before : Searched) (extras : List Extra) → IsSearched (without_last s) rounds moves before
-    → AreExtrasBelow s rounds moves before (car_count s) extras → AreExtras s rounds moves extras
-extras-of s rounds moves before extras searched are = record { before = before; searched = searched; count = are.count; each = are.each }
+pub extras-of : (s : Snapshot) (rounds most_tours : ℕ) (before : Searched) (extras : List Extra) → IsSearched (without_last s) rounds most_tours before
+    → AreExtrasBelow s rounds most_tours before (car_count s) extras → AreExtras s rounds most_tours extras
+extras-of s rounds most_tours before extras searched are = record { before = before; searched = searched; count = are.count; each = are.each }
 
-pub nearest-has : (s : Snapshot) (rounds moves : ℕ) (before : Searched) (extras : List Extra) (c : ℕ)
-    → AreExtrasBelow s rounds moves before (car_count s) extras → IsNearest s c → has_extra (extra_at extras c) ≡ true
-nearest-has s rounds moves before extras c are nearest =
+pub nearest-has : (s : Snapshot) (rounds most_tours : ℕ) (before : Searched) (extras : List Extra) (c : ℕ)
+    → AreExtrasBelow s rounds most_tours before (car_count s) extras → IsNearest s c → has_extra (extra_at extras c) ≡ true
+nearest-has s rounds most_tours before extras c are nearest =
     let takes = nearest.takes in
-    sym (takes-has s rounds moves before c (extra_at extras c) (are.each c takes.is_car)) ∙ takes.possible
+    sym (takes-has s rounds most_tours before c (extra_at extras c) (are.each c takes.is_car)) ∙ takes.possible
 
-pub all-settled : (s : Snapshot) (rounds moves : ℕ) (before : Searched) (extras : List Extra) → IsSearched (without_last s) rounds moves before
-    → AreExtrasBelow s rounds moves before (car_count s) extras → AreEnough s rounds moves → AreSettled extras
-all-settled s rounds moves before extras searched are enough c below =
+pub all-settled : (s : Snapshot) (rounds most_tours : ℕ) (before : Searched) (extras : List Extra) → IsSearched (without_last s) rounds most_tours before
+    → AreExtrasBelow s rounds most_tours before (car_count s) extras → AreEnough s rounds most_tours → AreSettled extras
+all-settled s rounds most_tours before extras searched are enough c below =
     let count = are.count in
     let car : c < car_count s = omega (arith, below, count) in
-    enough-settled s rounds moves before c (extra_at extras c) car enough searched (are.each c car)
+    enough-settled s rounds most_tours before c (extra_at extras c) car enough searched (are.each c car)

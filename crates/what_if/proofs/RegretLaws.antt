@@ -34,48 +34,48 @@ record IsCheapest (s : Snapshot) (extras : List Extra) (c : ℕ) : Type 0 where
   takes : CanTakeAsked s c
   least : (other : ℕ) → CanTakeAsked s other → low_of (extra_at extras c) ≤ℤ low_of (extra_at extras other)
 
-cheapest-is : (s : Snapshot) (rounds moves : ℕ) (extras : List Extra) (r : Regret) (a : AreExtras s rounds moves extras) (e : HasEnds extras r)
+cheapest-is : (s : Snapshot) (rounds most_tours : ℕ) (extras : List Extra) (r : Regret) (a : AreExtras s rounds most_tours extras) (e : HasEnds extras r)
     → IsCheapest s extras e.cheapest
-cheapest-is s rounds moves extras r a e =
+cheapest-is s rounds most_tours extras r a e =
     let count = a.count in
     let is_car = e.is_car in
     let car : e.cheapest < car_count s = omega (arith, count, is_car) in
     record {
-      takes = record { is_car = car; possible = takes-has s rounds moves a.before e.cheapest (extra_at extras e.cheapest) (a.each e.cheapest car) ∙ e.has };
+      takes = record { is_car = car; possible = takes-has s rounds most_tours a.before e.cheapest (extra_at extras e.cheapest) (a.each e.cheapest car) ∙ e.has };
       least = λ other takes.
           (let below = takes.is_car in
           e.least other (omega (arith, below, count))
-          (sym (takes-has s rounds moves a.before other (extra_at extras other) (a.each other takes.is_car)) ∙ takes.possible));
+          (sym (takes-has s rounds most_tours a.before other (extra_at extras other) (a.each other takes.is_car)) ∙ takes.possible));
     }
 
 -- of a settled list, what is said of a car is its extra cost
-settled-at : (s : Snapshot) (rounds moves : ℕ) (extras : List Extra) → AreExtras s rounds moves extras → AreSettled extras → (c : ℕ) → CanTakeAsked s c
+settled-at : (s : Snapshot) (rounds most_tours : ℕ) (extras : List Extra) → AreExtras s rounds most_tours extras → AreSettled extras → (c : ℕ) → CanTakeAsked s c
     → IsExtraCost s c (low_of (extra_at extras c)) × (low_of (extra_at extras c) ≡ high_of (extra_at extras c))
-settled-at s rounds moves extras a all c takes =
+settled-at s rounds most_tours extras a all c takes =
     let count = a.count in
     let below = takes.is_car in
-    settled-is s rounds moves a.before c (extra_at extras c) takes.possible (all c (omega (arith, count, below))) (a.each c takes.is_car)
+    settled-is s rounds most_tours a.before c (extra_at extras c) takes.possible (all c (omega (arith, count, below))) (a.each c takes.is_car)
 
 -- a regret is at least the low end
-low-end : (s : Snapshot) (rounds moves : ℕ) (extras : List Extra) (r : Regret) → AreExtras s rounds moves extras → IsNearest s r.car → HasEnds extras r
+low-end : (s : Snapshot) (rounds most_tours : ℕ) (extras : List Extra) (r : Regret) → AreExtras s rounds most_tours extras → IsNearest s r.car → HasEnds extras r
     → (regret : ℤ) → IsRegretOf s r.car regret → r.low ≤ℤ regret
-low-end s rounds moves extras r a nearest e regret h =
+low-end s rounds most_tours extras r a nearest e regret h =
     let takes = nearest.takes in
     let is = h.is in
     elim (all-or-not (length extras) (λ c. is_settled (extra_at extras c))) [
-      | inl all ↦ (let cheapest = cheapest-is s rounds moves extras r a e in let own = settled-at s rounds moves extras a all r.car takes in
+      | inl all ↦ (let cheapest = cheapest-is s rounds most_tours extras r a e in let own = settled-at s rounds most_tours extras a all r.car takes in
           let same = own.1 in let within =
-          extra-within s rounds moves a.before r.car (extra_at extras r.car) h.extra takes.possible (a.each r.car takes.is_car) h.extra_cost in
-          let from = within.0 in let best = settled-at s rounds moves extras a all e.cheapest cheapest.takes in
+          extra-within s rounds most_tours a.before r.car (extra_at extras r.car) h.extra takes.possible (a.each r.car takes.is_car) h.extra_cost in
+          let from = within.0 in let best = settled-at s rounds most_tours extras a all e.cheapest cheapest.takes in
           let least = h.least.least e.cheapest (low_of (extra_at extras e.cheapest)) cheapest.takes best.0 in let low = e.settled all in let high = e.high in
           omega (arith, ints, same, from, least, low, high, is))
       | inr some ↦ (let low = e.unsettled some in let least = h.least.least r.car h.extra takes h.extra_cost in omega (arith, ints, low, least, is))
     ]
 
-pub regret-is : (s : Snapshot) (rounds moves : ℕ) (extras : List Extra) (r : Regret) → AreExtras s rounds moves extras → IsNearest s r.car → HasEnds extras r
+pub regret-is : (s : Snapshot) (rounds most_tours : ℕ) (extras : List Extra) (r : Regret) → AreExtras s rounds most_tours extras → IsNearest s r.car → HasEnds extras r
     → IsRegret s extras r
-regret-is s rounds moves extras r a nearest e =
-    let cheapest = cheapest-is s rounds moves extras r a e in
+regret-is s rounds most_tours extras r a nearest e =
+    let cheapest = cheapest-is s rounds most_tours extras r a e in
     let takes = nearest.takes in
     let here = a.each r.car takes.is_car in
     let high_is = e.high in
@@ -83,12 +83,12 @@ regret-is s rounds moves extras r a nearest e =
       nearest = nearest;
       ends = e;
       holds = λ regret h.
-          (let own = extra-within s rounds moves a.before r.car (extra_at extras r.car) h.extra takes.possible here h.extra_cost in let top = own.1 in
-          let best = extra-within s rounds moves a.before h.least.car (extra_at extras h.least.car) h.best h.least.takes.possible
+          (let own = extra-within s rounds most_tours a.before r.car (extra_at extras r.car) h.extra takes.possible here h.extra_cost in let top = own.1 in
+          let best = extra-within s rounds most_tours a.before h.least.car (extra_at extras h.least.car) h.best h.least.takes.possible
           (a.each h.least.car h.least.takes.is_car) h.least.is in let floor = best.0 in let least = cheapest.least h.least.car h.least.takes in
-          let is = h.is in (low-end s rounds moves extras r a nearest e regret h, omega (arith, ints, top, floor, least, is, high_is)));
-      exact = λ all. (let own = settled-at s rounds moves extras a all r.car takes in
-          let best = settled-at s rounds moves extras a all e.cheapest cheapest.takes in let same = own.1 in let low = e.settled all in record {
+          let is = h.is in (low-end s rounds most_tours extras r a nearest e regret h, omega (arith, ints, top, floor, least, is, high_is)));
+      exact = λ all. (let own = settled-at s rounds most_tours extras a all r.car takes in
+          let best = settled-at s rounds most_tours extras a all e.cheapest cheapest.takes in let same = own.1 in let low = e.settled all in record {
             extra = low_of (extra_at extras r.car);
             best = low_of (extra_at extras e.cheapest);
             extra_cost = own.0;
@@ -98,7 +98,7 @@ regret-is s rounds moves extras r a nearest e =
               is = best.0;
               least = λ c other takes_too is.
                   (let le = cheapest.least c takes_too in
-                  let within = extra-within s rounds moves a.before c (extra_at extras c) other takes_too.possible (a.each c takes_too.is_car) is in
+                  let within = extra-within s rounds most_tours a.before c (extra_at extras c) other takes_too.possible (a.each c takes_too.is_car) is in
                   let from = within.0 in omega (arith, ints, le, from));
             };
             is = omega (arith, ints, low, high_is, same);

@@ -57,7 +57,7 @@ Tells before after (Exact extra) = AreClosed before after × (extra ≡ pos afte
 Tells before after (Between low high) = AreEnds before after low high
 
 -- the extras of the cars below n
-pub record AreExtrasBelow (s : Snapshot) (rounds moves : ℕ) (before : Searched) (n : ℕ) (extras : List Extra) : Type 0 where
+pub record AreExtrasBelow (s : Snapshot) (rounds most_tours : ℕ) (before : Searched) (n : ℕ) (extras : List Extra) : Type 0 where
   pub count : length extras ≡ n
-  pub each : (c : ℕ) → c < n → IsExtraOf s rounds moves before c (extra_at extras c)
+  pub each : (c : ℕ) → c < n → IsExtraOf s rounds most_tours before c (extra_at extras c)
   pub ranged : (c : ℕ) → c < n → IsRanged (extra_at extras c)

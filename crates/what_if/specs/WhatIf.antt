@@ -10,7 +10,7 @@ use Rattle.search_model.specs.declared.Twig.{Twig}
 use Rattle.search_model.specs.declared.Turn.{Turn}
 use Rattle.search_model.specs.declared.StopReason.{StopReason}
 use Rattle.search_model.specs.Solving.{IsSolveAnswer}
-use Rattle.search_model.specs.Verdicts.{moves_enough, rounds_enough}
+use Rattle.search_model.specs.Verdicts.{tours_enough, rounds_enough}
 use Rattle.what_if.specs.declared.extras.Extra.{Extra}
 use Rattle.what_if.specs.declared.extras.Extra.TheVariants.{None as NoExtra, Exact, Between}
 use Rattle.what_if.specs.declared.extras.Searched.{Searched}
@@ -78,14 +78,14 @@ pub record IsExtraCost (s : Snapshot) (c : ℕ) (extra : ℤ) : Type 0 where
 -- ---- what two searches tell of it
 
 -- a search within the limits answers this cost and this bound
-pub record IsSearched (s : Snapshot) (rounds moves : ℕ) (x : Searched) : Type 0 where
+pub record IsSearched (s : Snapshot) (rounds most_tours : ℕ) (x : Searched) : Type 0 where
   pub plan : List (List Stop)
   pub tree : List Twig
   pub turns : List Turn
   pub why : StopReason
-  pub answer : IsSolveAnswer s rounds moves plan x.cost x.bound tree turns why
+  pub answer : IsSolveAnswer s rounds most_tours plan x.cost x.bound tree turns why
   pub bound : IsBound s x.bound
-  pub enough : rounds_enough s ≤ rounds → moves_enough s ≤ moves → x.cost ≡ x.bound
+  pub enough : rounds_enough s ≤ rounds → tours_enough s ≤ most_tours → x.cost ≡ x.bound
 
 abbrev pub AreClosed : (before after : Searched) → Type 0
 AreClosed before after = (before.cost ≡ before.bound) × (after.cost ≡ after.bound)
@@ -94,17 +94,17 @@ AreClosed before after = (before.cost ≡ before.bound) × (after.cost ≡ after
 abbrev pub IsOneOpen : (before after : Searched) → Type 0
 IsOneOpen before after = (before.bound < before.cost) ⊎ (after.bound < after.cost)
 
-pub record IsExact (s : Snapshot) (rounds moves : ℕ) (before : Searched) (c : ℕ) (extra : ℤ) : Type 0 where
+pub record IsExact (s : Snapshot) (rounds most_tours : ℕ) (before : Searched) (c : ℕ) (extra : ℤ) : Type 0 where
   pub after : Searched
-  pub searched : IsSearched (with_pin s c) rounds moves after
+  pub searched : IsSearched (with_pin s c) rounds most_tours after
   pub closed : AreClosed before after
   pub is : extra ≡ pos after.cost -ℤ pos before.cost
   pub extra_cost : IsExtraCost s c extra
   pub only : (other : ℤ) → IsExtraCost s c other → other ≡ extra
 
-pub record IsBetween (s : Snapshot) (rounds moves : ℕ) (before : Searched) (c : ℕ) (low high : ℤ) : Type 0 where
+pub record IsBetween (s : Snapshot) (rounds most_tours : ℕ) (before : Searched) (c : ℕ) (low high : ℤ) : Type 0 where
   pub after : Searched
-  pub searched : IsSearched (with_pin s c) rounds moves after
+  pub searched : IsSearched (with_pin s c) rounds most_tours after
   pub one_open : IsOneOpen before after
   pub low_is : low ≡ pos after.bound -ℤ pos before.cost
   pub high_is : high ≡ pos after.cost -ℤ pos before.bound
@@ -112,10 +112,10 @@ pub record IsBetween (s : Snapshot) (rounds moves : ℕ) (before : Searched) (c 
   pub holds : (extra : ℤ) → IsExtraCost s c extra → (low ≤ℤ extra) × (extra ≤ℤ high)
 
 -- What is said of a car, after the search without the call.
-abbrev pub IsExtraOf : Snapshot → (rounds moves : ℕ) → (before : Searched) → ℕ → Extra → Type 0
-IsExtraOf s rounds moves before c NoExtra = takes_asked s c ≡ false
-IsExtraOf s rounds moves before c (Exact extra) = (takes_asked s c ≡ true) × IsExact s rounds moves before c extra
-IsExtraOf s rounds moves before c (Between low high) = (takes_asked s c ≡ true) × IsBetween s rounds moves before c low high
+abbrev pub IsExtraOf : Snapshot → (rounds most_tours : ℕ) → (before : Searched) → ℕ → Extra → Type 0
+IsExtraOf s rounds most_tours before c NoExtra = takes_asked s c ≡ false
+IsExtraOf s rounds most_tours before c (Exact extra) = (takes_asked s c ≡ true) × IsExact s rounds most_tours before c extra
+IsExtraOf s rounds most_tours before c (Between low high) = (takes_asked s c ≡ true) × IsBetween s rounds most_tours before c low high
 
 abbrev pub no_extra : Extra
 no_extra = NoExtra
@@ -125,18 +125,18 @@ abbrev pub extra_at : List Extra → ℕ → Extra
 extra_at extras c = slice_index_or extras c no_extra
 
 -- What is said of each car.
-pub record AreExtras (s : Snapshot) (rounds moves : ℕ) (extras : List Extra) : Type 0 where
+pub record AreExtras (s : Snapshot) (rounds most_tours : ℕ) (extras : List Extra) : Type 0 where
   pub before : Searched
-  pub searched : IsSearched (without_last s) rounds moves before
+  pub searched : IsSearched (without_last s) rounds most_tours before
   pub count : length extras ≡ car_count s
-  pub each : (c : ℕ) → c < car_count s → IsExtraOf s rounds moves before c (extra_at extras c)
+  pub each : (c : ℕ) → c < car_count s → IsExtraOf s rounds most_tours before c (extra_at extras c)
 
 -- the limits are enough for each of the searches
-pub record AreEnough (s : Snapshot) (rounds moves : ℕ) : Type 0 where
+pub record AreEnough (s : Snapshot) (rounds most_tours : ℕ) : Type 0 where
   pub rounds_without : rounds_enough (without_last s) ≤ rounds
-  pub moves_without : moves_enough (without_last s) ≤ moves
+  pub moves_without : tours_enough (without_last s) ≤ most_tours
   pub rounds_with : (c : ℕ) → CanTakeAsked s c → rounds_enough (with_pin s c) ≤ rounds
-  pub moves_with : (c : ℕ) → CanTakeAsked s c → moves_enough (with_pin s c) ≤ moves
+  pub moves_with : (c : ℕ) → CanTakeAsked s c → tours_enough (with_pin s c) ≤ most_tours
 
 -- ---- what it costs to send the nearest car
 

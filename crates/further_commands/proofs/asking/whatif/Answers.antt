@@ -9,12 +9,12 @@ pub returns-in-Ok-answer_of-clause-ends : goal.returns-in-Ok-answer_of-clause-en
 returns-in-Ok-answer_of-clause-ends g c =
     let left = g.S.Source.left in
     let rounds = c.args.limits.rounds in
-    let moves = c.args.limits.most_tours in
+    let most_tours = c.args.limits.most_tours in
     let old = streams (left c.args.source.now) (g.K.Sink.taken c.args.sink.now) (g.S.Source.faults c.args.source.now) (g.K.Sink.faults c.args.sink.now) in
     let new = streams (left c.read_input.new.source) (g.K.Sink.taken c.put.new.sink) (g.S.Source.faults c.read_input.new.source)
     (g.K.Sink.faults c.put.new.sink) in
     let answer = c.in-Ok-answer_of.answer in
-    let due : AnswerIsDue rounds moves (left c.args.source.now) (left c.read_input.new.source) answer.status answer.text.items = record {
+    let due : AnswerIsDue rounds most_tours (left c.args.source.now) (left c.read_input.new.source) answer.status answer.text.items = record {
       snapshot = c.in-Ok.snapshot;
       accepted = c.in-Ok.ensures.accepted;
       asked = c.in-Ok.ensures.asked;
@@ -22,7 +22,7 @@ returns-in-Ok-answer_of-clause-ends g c =
       ended = c.in-Ok.ensures.ended;
       told = c.in-Ok-answer_of.ensures.told;
     } in
-    ends_told rounds moves (left c.args.source.now) (left c.read_input.new.source) old new answer.text.items answer.status c.put.result due
+    ends_told rounds most_tours (left c.args.source.now) (left c.read_input.new.source) old new answer.text.items answer.status c.put.result due
     (rw c.as_slice.ensures.value at c.put.ensures.put)
 
 pub returns-in-Ok-answer_of-clause-answers : goal.returns-in-Ok-answer_of-clause-answers

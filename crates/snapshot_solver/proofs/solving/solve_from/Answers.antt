@@ -39,11 +39,11 @@ returns-clause-answer g c going =
     c.find_plan.result (returns-clause-any g c) (c.find_plan.ensures.goes_on going)
 
 pub returns-clause-enough : goal.returns-clause-enough
-returns-clause-enough g c going rounds moves =
+returns-clause-enough g c going rounds most_tours =
     let s = c.args.snapshot.now in
     let Answer : Found → Type 0 =
     λ f. IsSolveAnswer s c.args.limits.rounds c.args.limits.most_tours f.stated.plan f.stated.cost f.stated.bound f.tree.twigs f.turns f.why in
     if_ok Answer (λ f. f.why ≡ Solved)
     (λ f h. (enough_is_solved (start_prices s)
     (pos (floor_of_bound s)) s c.args.limits.rounds c.args.limits.most_tours f.stated.plan f.stated.cost f.stated.bound f.tree.twigs f.turns f.why
-    c.calls.ensures.accepted (few_tours s) rounds moves h).1) c.find_plan.result (returns-clause-answer g c going)
+    c.calls.ensures.accepted (few_tours s) rounds most_tours h).1) c.find_plan.result (returns-clause-answer g c going)
