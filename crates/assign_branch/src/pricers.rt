@@ -1,6 +1,6 @@
 //! What a pricing is asked and what it has to answer.
 
-ghost use Rattle.std.specs.Prelude.{◌≡◌, ◌<◌, ◌≤◌, ◌^◌, true, false, length, IfOk, IfSome};
+ghost use Rattle.std.specs.Prelude.{◌≡◌, ◌↔◌, ◌<◌, ◌≤◌, ◌^◌, true, false, length, IfOk, IfSome};
 ghost use Rattle.elevator_model.specs.Snapshot.{Snapshot, car_count, call_count};
 ghost use Rattle.search_model.specs.Nodes.{IsNodeOf, IsTourIn};
 ghost use Rattle.search_model.specs.Prices.{IsWorth, price_at};
@@ -36,8 +36,8 @@ pub trait Pricer: Sync {
         ensures own { IfOk result (λ desk. owns self.now desk) }
         ensures empty { IfOk result (λ desk. (p : Pricing) → holds self.now desk p → ⊥) };
 
-    /// Prices a car in a node, at one price for each call in their order, and tries at most `limit` partial
-    /// tours. It takes no memory.
+    /// Prices a car in a node, at one price for each call in their order, and tries at most `most_tours`
+    /// partial tours. It takes no memory.
     ///
     /// The worth is one that no tour of the car in the node has a value below, in thousandths of a cost unit,
     /// and where the limit was not reached some tour has it.
@@ -46,24 +46,24 @@ pub trait Pricer: Sync {
         car: u32,
         node: &Node,
         prices: &[Price],
-        limit: u64,
+        most_tours: u64,
         desk: &mut Self::Desk,
     ) -> Priced
         requires own { owns self.now desk.old }
         requires car { car < car_count (snapshot self.now) }
         requires node { IsNodeOf (snapshot self.now) node.now }
         requires prices { length prices.now ≡ call_count (snapshot self.now) }
-        requires limit { (1 ≤ limit) × (limit ≤ 10 ^ 18) }
+        requires most_tours { (1 ≤ most_tours) × (most_tours ≤ 10 ^ 18) }
         ensures own { owns self.now desk.new }
         ensures held { holds self.now desk.new
             (record { car = car; node = node.now; prices = prices.now; answer = result }) }
         ensures worth { IsWorth (snapshot self.now) node.now car (price_at prices.now) result.worth }
         ensures size { IsWorthSize result.worth }
-        ensures visits { (1 ≤ result.visits) × (result.visits ≤ limit) }
+        ensures visits { (1 ≤ result.visits) × (result.visits ≤ most_tours) }
         ensures least { result.spent ≡ false
             → ReachesLeast (snapshot self.now) node.now car (price_at prices.now) result.worth }
-        ensures spent { result.spent ≡ true
-            → (result.visits ≡ limit) × HasPartialTours (snapshot self.now) node.now car limit };
+        ensures spent { result.spent ≡ true → HasPartialTours (snapshot self.now) node.now car most_tours }
+        ensures reached { (result.spent ≡ true) ↔ (result.visits ≡ most_tours) };
 
     /// A tour of the last pricing at the desk: one that has the worth where the limit was not reached, and
     /// else any tour of the car in the node, or none. None is given before the first pricing.

@@ -71,7 +71,8 @@ none-there None none = refl
 none-there (Some most) none = absurd (none most refl)
 
 -- where the limits are enough, the bound that is stated is the one that the search found
-same-bound : (rounds most_tours : ℕ) (claims : Option ℕ) (s : Snapshot) (stated : Stated) (proof : List ℕ) (row : IsSolvedPlan rounds most_tours claims s stated proof)
+same-bound : (rounds most_tours : ℕ) (claims : Option ℕ) (s : Snapshot) (stated : Stated) (proof : List ℕ)
+    (row : IsSolvedPlan rounds most_tours claims s stated proof)
     → AreEnoughFor rounds most_tours claims s → stated.bound ≡ row.bound
 same-bound rounds most_tours None s stated proof row enough = row.written.0
 same-bound rounds most_tours (Some limit) s stated proof row enough =

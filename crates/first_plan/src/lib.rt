@@ -12,10 +12,11 @@
 //! the calls one after another at their cheapest places (`places`): where a call boards, the place where it
 //! gets off follows, since a car with someone aboard may not turn, and from there on all stops are late by
 //! the same time, so a place is judged by the stops between the two alone. `first` then moves calls
-//! (`reinsertion`): for 100 rounds a call, at most as many as the caller says (8,000 by default) and as long as
-//! a gate lets it go on, up to eight calls that are alike are taken out and put back in a drawn order, and that is kept if it costs no more than before or little more than the best,
-//! by an allowance that falls from 2 % to nothing. Only that all this is safe and ends is proved. In
-//! buildings with a patience a place is judged as if no one's patience ended meanwhile.
+//! (`reinsertion`): for 100 rounds a call, at most as many as the caller says (8,000 by default) and as
+//! long as a gate lets it go on, up to eight calls that are alike are taken out and put back in a drawn
+//! order, and that is kept if it costs no more than before or little more than the best, by an allowance
+//! that falls from 2 % to nothing. Only that all this is safe and ends is proved. In buildings with a
+//! patience a place is judged as if no one's patience ended meanwhile.
 #![tactic(auto)]
 
 mod drafts;

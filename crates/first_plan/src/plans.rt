@@ -51,9 +51,9 @@ fn feasible_plan<G: Gate>(
 /// A feasible plan of the snapshot: every accepted snapshot has one. The only error is that memory runs out.
 ///
 /// It is made by putting the calls one after another where the cost rises least, and then taking calls out
-/// and putting them back, some at a time: for 100 rounds a call, as many as `rounds` at most, and as long as
-/// the gate lets the work go on, which is asked before each round. Where that fails, each car serves its calls
-/// one after another.
+/// and putting them back, some at a time: for 100 rounds a call, as many as `rounds` at most, and as long
+/// as the gate lets the work go on, which is asked before each round. Where that fails, each car serves its
+/// calls one after another.
 pub fn first<G: Gate>(
     alloc: Global,
     snapshot: &Snapshot,

@@ -70,8 +70,8 @@ fn put_all(
     Ok(true)
 }
 
-/// A cheap plan of the calls in this order, after at most this many rounds of moving calls. None where no place
-/// is found for a call.
+/// A cheap plan of the calls in this order, after at most this many rounds of moving calls. None where no
+/// place is found for a call.
 fn plan_in_order<G: Gate>(
     alloc: Global,
     snapshot: &Snapshot,

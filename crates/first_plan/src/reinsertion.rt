@@ -112,7 +112,7 @@ fn excess_of(best: u64, rounds_left: u64, rounds: u64) -> u64 {
     best.saturating_mul(share).checked_div(whole).unwrap_or(0)
 }
 
-/// How many rounds there are for this many calls, where there are at most so many.
+/// How many rounds there are for this many calls: 100 a call, and at most `most`.
 fn rounds_for(calls: usize, most: u32) -> usize {
     ROUNDS_PER_CALL.saturating_mul(calls).min(most as usize)
 }
@@ -230,8 +230,8 @@ impl<'a> Moving<'a> {
         Ok(())
     }
 
-    /// The best drafts that come of moving calls, some at a time, as long as there are rounds and work left and
-    /// the gate lets the work go on.
+    /// The best drafts that come of moving calls, some at a time, as long as there are rounds and work left
+    /// and the gate lets the work go on.
     pub(crate) fn improved<G: Gate>(
         mut self,
         alloc: Global,

@@ -46,7 +46,7 @@ BanksByWords words old new status = (options : SearchOptions) → AreTaken words
 
 -- what was read and written, and that a case is answered and anything else refused
 pub record RunsRoot (options : RootOptions) (old new : Streams) (status : Status) : Type 0 where
-  pub ends : Ends (RootDue options.rounds options.moves old.left new.left) old new status
+  pub ends : Ends (RootDue options.limits.rounds options.limits.most_tours old.left new.left) old new status
   pub answers : AnswersRoot old new status
   pub refuses : RefusesRoot old new status
 

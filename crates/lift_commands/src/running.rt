@@ -216,7 +216,7 @@ pub fn run<S: Source, K: Sink, C: SearchCrew + CountingCrew + JudgingCrew + Grou
             let runtime = runtime(crew, options.workers, alloc, &quiet);
             banks(&runtime, options.limits, source, sink)
         }
-        Ok(Request::Root(options)) => root(alloc, options.rounds, options.moves, source, sink),
+        Ok(Request::Root(options)) => root(alloc, options.limits, source, sink),
         Ok(Request::Audit(options)) => {
             let runtime = runtime(crew, options.workers, alloc, &quiet);
             audit(&runtime, source, sink)

@@ -179,9 +179,8 @@ asks_for_day_one rows a b x y =
 
 asks_for_root_one : (rows : List Row) (a b : RootOptions) → AsksForRoot rows a → AsksForRoot rows b → a ≡ b
 asks_for_root_one rows a b x y =
-    let rounds = only (sym x.rounds ∙ y.rounds) in
-    let moves = only (sym x.moves ∙ y.moves) in
-    λ i. record { rounds = rounds i; moves = moves i }
+    let limits = same_limits a.limits b.limits (only (sym x.rounds ∙ y.rounds)) (only (sym x.moves ∙ y.moves)) in
+    λ i. record { limits = limits i }
 
 asks_for_sizes_one : (rows : List Row) (a b : CaseSizes) → AsksForSizes rows a → AsksForSizes rows b → a ≡ b
 asks_for_sizes_one rows a b x y =

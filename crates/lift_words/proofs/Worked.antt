@@ -283,7 +283,7 @@ banks_of_three_workers = record {
     only (zero, lt, same) = absurd cc
     only (suc k, lt, same) = absurd (omega arith)
 
-pub root_of_five_turns : AreTaken (codes "lift" ∷ codes "root" ∷ codes "--rounds=5" ∷ []) (Root (record { rounds = 5; moves = 75000 }))
+pub root_of_five_turns : AreTaken (codes "lift" ∷ codes "root" ∷ codes "--rounds=5" ∷ []) (Root (record { limits = limits_of 5 75000 (tt, tt) (tt, tt) }))
 unfolding clap_on_literals
 root_of_five_turns = record {
   command = refl;

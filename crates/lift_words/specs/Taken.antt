@@ -80,8 +80,8 @@ abbrev pub without_certificates : SearchOptions → DayOptions
 without_certificates options = record { search = options; claims = 1; certs = false; progress = false }
 
 pub record AsksForRoot (rows : List Row) (options : RootOptions) : Type 0 where
-  pub rounds : number_of rows Turns ≡ Some options.rounds
-  pub moves : number_of rows Moves ≡ Some options.moves
+  pub rounds : number_of rows Turns ≡ Some options.limits.rounds
+  pub moves : number_of rows Moves ≡ Some options.limits.most_tours
 
 pub record AsksForSizes (rows : List Row) (sizes : CaseSizes) : Type 0 where
   pub number : number_of rows Number ≡ Some sizes.number
@@ -165,8 +165,7 @@ pub record AreDayOptions (options : DayOptions) : Type 0 where
   pub claims : IsInRange Claims options.claims
 
 pub record AreRootOptions (options : RootOptions) : Type 0 where
-  pub rounds : IsInRange Turns options.rounds
-  pub moves : IsInRange Moves options.moves
+  pub rounds : IsInRange Turns options.limits.rounds
 
 pub record AreCaseSizes (sizes : CaseSizes) : Type 0 where
   pub number : IsInRange Number sizes.number

@@ -152,11 +152,9 @@ fn root_options(matches: &ArgMatches<'_>) -> Option<RootOptions>
     ensures within { IfSome result AreRootOptions }
 {
     let rounds = number(matches, NumberOption::Turns)?;
-    let moves = number(matches, NumberOption::Moves)?;
-    Some(RootOptions {
-        rounds: rounds as u32,
-        moves,
-    })
+    let most_tours = number(matches, NumberOption::Moves)?;
+    let limits = Limits::new(rounds, most_tours)?;
+    Some(RootOptions { limits })
 }
 
 /// What `make` asks for: a case, or with `--run` its solution.

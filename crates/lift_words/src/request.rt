@@ -35,8 +35,8 @@ pub enum Request {
 /// The options of `solve`.
 #[derive(Clone, Copy)]
 pub struct SolveOptions {
-    /// `--rounds` and `--moves`: at most this many rounds, and at most this many partial tours in one pricing,
-    /// each 1 to 10^18. The defaults are 2000 and 75000.
+    /// `--rounds` and `--moves`: at most this many rounds, and at most this many partial tours in one
+    /// pricing, each 1 to 10^18. The defaults are 2000 and 75000.
     pub limits: Limits,
     /// `--workers`: this many threads, 1 to 16. The default is 1.
     pub workers: Workers,
@@ -72,8 +72,8 @@ pub struct DayOptions {
 /// workers.
 #[derive(Clone, Copy)]
 pub struct SearchOptions {
-    /// `--rounds` and `--moves`: at most this many rounds, and at most this many partial tours in one pricing,
-    /// each 1 to 10^18. The defaults are 2000 and 75000.
+    /// `--rounds` and `--moves`: at most this many rounds, and at most this many partial tours in one
+    /// pricing, each 1 to 10^18. The defaults are 2000 and 75000.
     pub limits: Limits,
     /// `--workers`: this many threads, 1 to 16. The default is 1.
     pub workers: Workers,
@@ -106,11 +106,9 @@ impl DayOptions {
 /// The options of `root`.
 #[derive(Clone, Copy)]
 pub struct RootOptions {
-    /// `--rounds`: this many turns at the root, 1 to 31. The default is 20.
-    pub rounds: u32,
-    /// `--moves`: at most this many partial tours in one pricing, and as many partial pairings, 1 to 10^18.
-    /// The default is 75000.
-    pub moves: u64,
+    /// `--rounds` and `--moves`: this many turns at the root, 1 to 31, and at most this many partial tours
+    /// in one pricing, and as many partial pairings, 1 to 10^18. The defaults are 20 and 75000.
+    pub limits: Limits,
 }
 
 /// The sizes of a generated case. `make` takes `--rounds` and `--moves` too, which change nothing without
@@ -132,7 +130,7 @@ pub struct CaseSizes {
 pub struct RunOptions {
     /// The sizes of the case.
     pub sizes: CaseSizes,
-    /// `--rounds` and `--moves`: at most this many rounds, and at most this many partial tours in one pricing,
-    /// each 1 to 10^18. The defaults are 2000 and 75000.
+    /// `--rounds` and `--moves`: at most this many rounds, and at most this many partial tours in one
+    /// pricing, each 1 to 10^18. The defaults are 2000 and 75000.
     pub limits: Limits,
 }

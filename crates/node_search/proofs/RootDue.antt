@@ -20,7 +20,7 @@ due_many s rounds most root enough most_is some many =
     }
 
 -- where each call has one car
-pub due_one : (s : Snapshot) (rounds : ℕ) (root : Root) → length root.turns.items ≡ 1 → IsSolvedIfUnspent root → 1 ≤ rounds
+pub due_one : (s : Snapshot) (rounds : ℕ) (root : Root) → length root.series.turns.items ≡ 1 → IsSolvedIfUnspent root → 1 ≤ rounds
     → AreSingle (call_count s) (root_of s) → HasDueTurns s rounds root
 due_one s rounds root one solved some single =
     record {

@@ -95,9 +95,9 @@ pub found_solved : (s : Snapshot) (rounds most_tours : ℕ) (start : PriceSheet)
     → IsTurned s rounds most_tours start root → pos root.best.cost ≤ℤ bound_of_sheet (leaf_of_root root).sheet
     → pos bound ≡ least_of root.best.cost root.tree.branches
     → IsFound start.prices (bound_of_sheet start) s rounds most_tours root.best.plan root.best.cost bound
-    (map twig_of root.tree.branches) root.turns.items Solved
+    (map twig_of root.tree.branches) root.series.turns.items Solved
 found_solved s rounds most_tours start root bound cars turned closed bound_is =
-    found s rounds most_tours start root.turns.items root.tree.branches root.best.plan root.best.cost bound (root.best.cost ≡ bound) (record {
+    found s rounds most_tours start root.series.turns.items root.tree.branches root.best.plan root.best.cost bound (root.best.cost ≡ bound) (record {
       sheet = above.sheet;
       root_turns = above.root_turns;
       few_turns = above.few_turns;
@@ -109,7 +109,7 @@ found_solved s rounds most_tours start root bound cars turned closed bound_is =
     is : IsRoot s most_tours root
     is = turned.stands
 
-    above : HasTurnsAbove s most_tours start root.turns.items root.tree.branches root.best.cost
+    above : HasTurnsAbove s most_tours start root.series.turns.items root.tree.branches root.best.cost
     above = turns_above s rounds most_tours start root (so_far s rounds most_tours start root turned) cars
 
     high : pos root.best.cost ≤ℤ bound_of_sheet is.branch.sheet
@@ -129,7 +129,7 @@ found_solved s rounds most_tours start root bound cars turned closed bound_is =
     unsplit = ap (λ (bs : List Branch). list_any is_split (map twig_of bs)) is.lone
         ∙ ap (λ (x : Option SplitAt). list_any is_split (twig_at x is.branch.sheet ∷ [])) is.leaf
 
-    many : HasChoice s → IsTrue (list_any is_split (map twig_of root.tree.branches)) ⊎ (bound < root.best.cost) → length root.turns.items ≡ min rounds 20
+    many : HasChoice s → IsTrue (list_any is_split (map twig_of root.tree.branches)) ⊎ (bound < root.best.cost) → length root.series.turns.items ≡ min rounds 20
     many choice (inl some) = absurd (both_ways (list_any is_split (map twig_of root.tree.branches)) unsplit some)
     many choice (inr less) = let same = solved in absurd (omega (arith, less, same))
 

@@ -73,13 +73,13 @@ choice_open s is_node choice single =
 -- ---- the turns' tours
 
 module _ (s : Snapshot) (most_tours : ℕ) (root : Root) (is : IsRoot s most_tours root) (cars : 1 ≤ car_count s) where
-  pooled_tour : (c : ℕ) (tour : List Stop) → c < car_count s → IsTourOfTurns root.turns.items c tour → Contains (tours_of_car root.best.pool c) tour
+  pooled_tour : (c : ℕ) (tour : List Stop) → c < car_count s → IsTourOfTurns root.series.turns.items c tour → Contains (tours_of_car root.best.pool c) tour
   pooled_tour c tour lt at = is.pooled at.0 at.1 at.2 c tour lt (ap (λ (t : Turn). (turn_of_car t c).tour) at.3 ∙ at.4)
 
-  some_turn : (c : ℕ) (tour : List Stop) → IsTourOfTurns root.turns.items c tour → 0 < length root.turns.items
+  some_turn : (c : ℕ) (tour : List Stop) → IsTourOfTurns root.series.turns.items c tour → 0 < length root.series.turns.items
   some_turn c tour at = let lt = at.2 in omega (arith, lt)
 
-  pub turns_cheapest : IsCheapestOfTurns s most_tours root.best.cost root.turns.items
+  pub turns_cheapest : IsCheapestOfTurns s most_tours root.best.cost root.series.turns.items
   turns_cheapest enough other feasible of =
       let same = is.best.snapshot in
       is.covered (some_turn 0 (tour_of other 0) (of 0 cars)) enough other (record {
@@ -111,15 +111,15 @@ module _ (s : Snapshot) (rounds most_tours : ℕ) (start : PriceSheet) (root : R
   pub branches_alone : AllInTree (IsBranchAt s most_tours) s root.tree.branches
   branches_alone = subst (AllInTree (IsBranchAt s most_tours) s) (sym stands.lone) (lone_stands (IsBranchAt s most_tours) s lone stands.leaf stands.at)
 
-  pub turns_above : 1 ≤ car_count s → HasTurnsAbove s most_tours start root.turns.items root.tree.branches root.best.cost
+  pub turns_above : 1 ≤ car_count s → HasTurnsAbove s most_tours start root.series.turns.items root.tree.branches root.best.cost
   turns_above cars =
       record {
         sheet = far.sheet;
-        root_turns = subst (λ (ps : List ℤ). AreRootTurns s most_tours ps root.turns.items) far.start_is stands.turns;
+        root_turns = subst (λ (ps : List ℤ). AreRootTurns s most_tours ps root.series.turns.items) far.start_is stands.series.root_turns;
         few_turns = stands.few_turns;
         above_start = at_least (sum_of_sheet start) (subst (λ (a : Branch). sum_of_sheet start ≤ℤ sum_of_sheet a.sheet) lone_is far.rises);
         above_turns = All-weaker (IsTurnBelow (sum_of_sheet lone.sheet)) (λ (turn : Turn). AllInTree (IsAtLeast (sum_of_turn turn)) s root.tree.branches)
-            (λ turn h. at_least (sum_of_turn turn) h) root.turns.items stands.takes;
+            (λ turn h. at_least (sum_of_turn turn) h) root.series.turns.items stands.takes;
         tours = turns_cheapest s most_tours root stands cars;
       }
 
@@ -139,7 +139,7 @@ module _ (s : Snapshot) (rounds most_tours : ℕ) (start : PriceSheet) (root : R
   leaf_is : leaf_of_root root ≡ b
   leaf_is = root_branch s most_tours root is
 
-  choice_many : HasChoice s → IsOpenRoot root → length root.turns.items ≡ min rounds 20
+  choice_many : HasChoice s → IsOpenRoot root → length root.series.turns.items ≡ min rounds 20
   choice_many choice is_open = turned.due.many (choice_open s (root_node s most_tours root is) choice) is_open
 
   -- ---- the root was priced, and is open
@@ -153,7 +153,7 @@ module _ (s : Snapshot) (rounds most_tours : ℕ) (start : PriceSheet) (root : R
 
     -- it is not split
 
-    rests : ((AreSingle (call_count s) (root_of s) → ⊥) → length root.turns.items < 20) → IsResting s root.best.cost b
+    rests : ((AreSingle (call_count s) (root_of s) → ⊥) → length root.series.turns.items < 20) → IsResting s root.best.cost b
     rests few =
         record {
           single = λ single _ none.
@@ -164,7 +164,7 @@ module _ (s : Snapshot) (rounds most_tours : ℕ) (start : PriceSheet) (root : R
               absurd (omega (arith, below, same, most)));
         }
 
-    tree_alone : ((AreSingle (call_count s) (root_of s) → ⊥) → length root.turns.items < 20) → IsTreeOf s most_tours root.best.cost root.tree.branches
+    tree_alone : ((AreSingle (call_count s) (root_of s) → ⊥) → length root.series.turns.items < 20) → IsTreeOf s most_tours root.best.cost root.tree.branches
     tree_alone few =
         subst (IsTreeOf s most_tours root.best.cost) (sym is.lone) (record {
           branches = lone_stands (IsBranchAt s most_tours) s b is.leaf is.at;
@@ -172,11 +172,11 @@ module _ (s : Snapshot) (rounds most_tours : ℕ) (start : PriceSheet) (root : R
           resting = lone_stands (IsRestingAt s root.best.cost) s b is.leaf (of_leaf (IsResting s root.best.cost b) b.split (rests few));
         })
 
-    rounds_alone : pricings_of root.tree.branches ≡ length root.turns.items
+    rounds_alone : pricings_of root.tree.branches ≡ length root.series.turns.items
     rounds_alone = ap pricings_of is.lone ∙ (let sum = sum_by-cons (λ (a : Branch). a.rounds) b [] in let same = is.rounds in omega (arith, sum, same))
 
-    pub begun_alone : (x : Search) → x.tree.branches ≡ root.tree.branches → x.best ≡ root.best → x.done ≡ length root.turns.items
-        → ((AreSingle (call_count s) (root_of s) → ⊥) → length root.turns.items < 20) → IsBegun s rounds most_tours start root.turns.items x
+    pub begun_alone : (x : Search) → x.tree.branches ≡ root.tree.branches → x.best ≡ root.best → x.done ≡ length root.series.turns.items
+        → ((AreSingle (call_count s) (root_of s) → ⊥) → length root.series.turns.items < 20) → IsBegun s rounds most_tours start root.series.turns.items x
     begun_alone x tree best done few =
         let cost : x.best.cost ≡ root.best.cost = ap (λ (a : Best). a.cost) best in
         record {
@@ -190,8 +190,8 @@ module _ (s : Snapshot) (rounds most_tours : ℕ) (start : PriceSheet) (root : R
             pricings = (let same = ap pricings_of tree in let all = rounds_alone in omega (arith, same, all, done));
             size = (let one = ap length tree in let one' = ap length is.lone in omega (arith, one, one'));
           };
-          above = subst (HasTurnsAbove s most_tours start root.turns.items x.tree.branches) (sym cost)
-              (subst (λ (bs : List Branch). HasTurnsAbove s most_tours start root.turns.items bs root.best.cost) (sym tree)
+          above = subst (HasTurnsAbove s most_tours start root.series.turns.items x.tree.branches) (sym cost)
+              (subst (λ (bs : List Branch). HasTurnsAbove s most_tours start root.series.turns.items bs root.best.cost) (sym tree)
               (turns_above s rounds most_tours start root (so_far s rounds most_tours start root turned) some_cars));
           few = (let most = turned.due.few in omega (arith, most, done));
           many = λ choice. choice_many choice is_open;
@@ -238,20 +238,20 @@ module _ (s : Snapshot) (rounds most_tours : ℕ) (start : PriceSheet) (root : R
       least_split z le =
           parts (IsAtLeast z) (λ place p q. (tt, le, le)) (of_leaf (z ≤ℤ sum_of_sheet b.sheet) b.split le)
 
-      turns_split : HasTurnsAbove s most_tours start root.turns.items tree root.best.cost
+      turns_split : HasTurnsAbove s most_tours start root.series.turns.items tree root.best.cost
       turns_split =
           record {
             sheet = turned.sheet;
-            root_turns = subst (λ (ps : List ℤ). AreRootTurns s most_tours ps root.turns.items) turned.start_is is.turns;
+            root_turns = subst (λ (ps : List ℤ). AreRootTurns s most_tours ps root.series.turns.items) turned.start_is is.series.root_turns;
             few_turns = is.few_turns;
             above_start = least_split (sum_of_sheet start) (subst (λ (a : Branch). sum_of_sheet start ≤ℤ sum_of_sheet a.sheet) leaf_is turned.rises);
             above_turns =
                 All-weaker (IsTurnBelow (sum_of_sheet b.sheet)) (λ (turn : Turn). AllInTree (IsAtLeast (sum_of_turn turn)) s tree)
-                (λ turn h. least_split (sum_of_turn turn) h) root.turns.items is.takes;
+                (λ turn h. least_split (sum_of_turn turn) h) root.series.turns.items is.takes;
             tours = turns_cheapest s most_tours root is some_cars;
           }
 
-      rounds_split : pricings_of tree ≡ length root.turns.items
+      rounds_split : pricings_of tree ≡ length root.series.turns.items
       rounds_split =
           ap pricings_of is_split ∙ (let f : Branch → ℕ = λ (a : Branch). a.rounds in
           let one = sum_by-cons f (split_at b split.call split.part) (first_part b split.call split.part ∷ second_part b split.call split.part ∷ []) in
@@ -260,8 +260,8 @@ module _ (s : Snapshot) (rounds most_tours : ℕ) (start : PriceSheet) (root : R
           let same = is.rounds in
           omega (arith, one, two, three, same))
 
-      pub begun_split : (x : Search) → x.tree.branches ≡ tree → x.best ≡ root.best → x.done ≡ length root.turns.items
-          → IsBegun s rounds most_tours start root.turns.items x
+      pub begun_split : (x : Search) → x.tree.branches ≡ tree → x.best ≡ root.best → x.done ≡ length root.series.turns.items
+          → IsBegun s rounds most_tours start root.series.turns.items x
       begun_split x tree_is best done =
           let cost : x.best.cost ≡ root.best.cost = ap (λ (a : Best). a.cost) best in
           record {
@@ -276,8 +276,8 @@ module _ (s : Snapshot) (rounds most_tours : ℕ) (start : PriceSheet) (root : R
               size = (let some = turned.due.begun is_open in let one = ap length tree_is in let three = ap length is_split in
                   omega (arith, one, three, some, done));
             };
-            above = subst (HasTurnsAbove s most_tours start root.turns.items x.tree.branches) (sym cost)
-                (subst (λ (bs : List Branch). HasTurnsAbove s most_tours start root.turns.items bs root.best.cost) (sym tree_is) turns_split);
+            above = subst (HasTurnsAbove s most_tours start root.series.turns.items x.tree.branches) (sym cost)
+                (subst (λ (bs : List Branch). HasTurnsAbove s most_tours start root.series.turns.items bs root.best.cost) (sym tree_is) turns_split);
             few = (let most = turned.due.few in omega (arith, most, done));
             many = λ choice. choice_many choice is_open;
           }
@@ -285,8 +285,10 @@ module _ (s : Snapshot) (rounds most_tours : ℕ) (start : PriceSheet) (root : R
 -- ---- the search that begins
 
 pub begun_is : (s : Snapshot) (rounds most_tours : ℕ) (start : PriceSheet) (root : Root) → IsTurned s rounds most_tours start root → IsAccepted s
-    → car_count s ≤ 16 → IsOpenRoot root → (x : Search) → x.best ≡ root.best → x.done ≡ length root.turns.items → IsSplit 0 root.tree.branches x.tree.branches
-    ⊎ IsKeptRoot (call_count s) (length root.turns.items) root.tree.branches x.tree.branches → IsBegun s rounds most_tours start root.turns.items x
+    → car_count s ≤ 16 → IsOpenRoot root → (x : Search) → x.best ≡ root.best → x.done ≡ length root.series.turns.items
+    → IsSplit 0 root.tree.branches x.tree.branches
+    ⊎ IsKeptRoot (call_count s) (length root.series.turns.items) root.tree.branches x.tree.branches
+    → IsBegun s rounds most_tours start root.series.turns.items x
 begun_is s rounds most_tours start root turned accepted few_cars is_open x best done grown =
     elim grown [
       | inl split ↦ begun_split s rounds most_tours start root turned few_cars accepted.building.cars_low is_open x.tree.branches split x refl best done

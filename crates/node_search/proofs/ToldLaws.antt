@@ -58,7 +58,7 @@ turned_of s rounds most_tours start root far due =
     record { stands = far.stands; start_is = far.start_is; sheet = far.sheet; rises = far.rises; due = due }
 
 -- no more are due where the root is not open
-pub closed_due : (s : Snapshot) (rounds : ℕ) (root : Root) → length root.turns.items ≤ rounds
+pub closed_due : (s : Snapshot) (rounds : ℕ) (root : Root) → length root.series.turns.items ≤ rounds
     → pos root.best.cost ≤ℤ bound_of_sheet (leaf_of_root root).sheet → HasDueTurns s rounds root
 closed_due s rounds root few closed =
     record {
@@ -72,12 +72,13 @@ closed_due s rounds root few closed =
 pub told_turning : (s : Snapshot) (rounds most_tours : ℕ) (start : PriceSheet) (root : Root) (bound : ℕ) → 1 ≤ car_count s
     → IsTurnedSoFar s rounds most_tours start root → pos bound ≡ least_of root.best.cost root.tree.branches
     → IsToldAnswer start.prices (bound_of_sheet start) s rounds most_tours root.best.plan root.best.cost bound (map twig_of root.tree.branches)
-    root.turns.items
+    root.series.turns.items
 told_turning s rounds most_tours start root bound cars far bound_is =
     record {
-      done = length root.turns.items;
+      done = length root.series.turns.items;
       fewer = far.few;
-      ending = found s (length root.turns.items) most_tours start root.turns.items root.tree.branches root.best.plan root.best.cost bound (Unit {0})
+      ending = found s (length root.series.turns.items) most_tours start root.series.turns.items root.tree.branches root.best.plan root.best.cost bound
+          (Unit {0})
           (record {
             sheet = above.sheet;
             root_turns = above.root_turns;
@@ -89,7 +90,7 @@ told_turning s rounds most_tours start root bound cars far bound_is =
           (λ _ _. (let few = above.few_turns in omega (arith, few))) above.tours tt;
     }
   where
-    above : HasTurnsAbove s most_tours start root.turns.items root.tree.branches root.best.cost
+    above : HasTurnsAbove s most_tours start root.series.turns.items root.tree.branches root.best.cost
     above = turns_above s rounds most_tours start root far cars
 
 -- ---- below the root

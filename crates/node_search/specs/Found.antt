@@ -17,8 +17,7 @@ use Rattle.node_search.specs.declared.found.Found.{Found}
 use Rattle.node_search.specs.declared.root.Root.{Root}
 use Rattle.node_search.specs.declared.root.TheConstants.{MOST_TURNS}
 use Rattle.node_search.specs.declared.search.Search.{Search}
-use Rattle.root_turns.specs.Dues.{start_of_turns}
-use Rattle.node_search.specs.Roots.{IsRoot, IsSolvedIfUnspent, leaf_of_root}
+use Rattle.node_search.specs.Roots.{IsRoot, IsSolvedIfUnspent, leaf_of_root, start_of_series}
 use Rattle.node_search.specs.Searches.{IsSearching, IsAtRest}
 
 -- where this many tries are enough, no plan made of the tours of the turns is cheaper
@@ -34,23 +33,23 @@ IsOpenRoot root = bound_of_sheet (leaf_of_root root).sheet <ℤ pos root.best.co
 -- The root after the turns that are due: where it is open they are as many as the rounds allow and
 -- `MOST_TURNS` at most where some call has two cars, and else one is enough, whose tours were tried.
 pub record HasDueTurns (s : Snapshot) (rounds : ℕ) (root : Root) : Type 0 where
-  pub few : length root.turns.items ≤ rounds
-  pub begun : IsOpenRoot root → 1 ≤ length root.turns.items
+  pub few : length root.series.turns.items ≤ rounds
+  pub begun : IsOpenRoot root → 1 ≤ length root.series.turns.items
   pub single : AreSingle (call_count s) (root_of s) → IsOpenRoot root → IsSolvedIfUnspent root
-  pub many : (AreSingle (call_count s) (root_of s) → ⊥) → IsOpenRoot root → length root.turns.items ≡ min rounds MOST_TURNS
+  pub many : (AreSingle (call_count s) (root_of s) → ⊥) → IsOpenRoot root → length root.series.turns.items ≡ min rounds MOST_TURNS
 
 -- the root after some turns, in a search that started with these prices and worths
 pub record IsTurnedSoFar (s : Snapshot) (rounds most_tours : ℕ) (start : PriceSheet) (root : Root) : Type 0 where
   pub stands : IsRoot s most_tours root
-  pub start_is : start_of_turns root.turns.items root.prices.items ≡ start.prices
+  pub start_is : start_of_series root.series ≡ start.prices
   pub sheet : IsSheetIn s (root_of s) start
   pub rises : sum_of_sheet start ≤ℤ sum_of_sheet (leaf_of_root root).sheet
-  pub few : length root.turns.items ≤ rounds
+  pub few : length root.series.turns.items ≤ rounds
 
 -- the root after its turns, in a search that started with these prices and worths
 pub record IsTurned (s : Snapshot) (rounds most_tours : ℕ) (start : PriceSheet) (root : Root) : Type 0 where
   pub stands : IsRoot s most_tours root
-  pub start_is : start_of_turns root.turns.items root.prices.items ≡ start.prices
+  pub start_is : start_of_series root.series ≡ start.prices
   pub sheet : IsSheetIn s (root_of s) start
   pub rises : sum_of_sheet start ≤ℤ sum_of_sheet (leaf_of_root root).sheet
   pub due : HasDueTurns s rounds root

@@ -14,7 +14,7 @@ use partition_relaxation::{Column, SeenTours};
 use price_scale::Price;
 use restricted_master::{Choice, Pool};
 use root_turns::{pool_of, put_turn};
-use search_model::TurnOf;
+use search_model::{Limits, TurnOf};
 use std::alloc::{AllocError, Global};
 use tour_cost::plan_cost;
 
@@ -91,25 +91,26 @@ impl<'a> Best<'a> {
         Ok(())
     }
 
-    /// Takes the cheapest plan of the pool's tours that `limit` tries find, where it is cheaper. It fails
-    /// only where there is no memory left.
+    /// Takes the cheapest plan of the pool's tours that as many tries find as a pricing may make, where it is
+    /// cheaper. It fails only where there is no memory left.
     pub(crate) fn select(
         &mut self,
         alloc: Global,
         prices: &[Price],
-        limit: u64,
+        limits: Limits,
     ) -> Result<(), AllocError>
         requires best { IsBest self.old.pool.snapshot self.old }
         requires prices { length prices.now ≡ call_count self.old.pool.snapshot }
-        requires limit { 1 ≤ limit }
         ensures best { OnOk result (IsBest self.old.pool.snapshot self.new) }
         ensures pool { OnOk result (self.new.pool ≡ self.old.pool) }
         ensures cheaper { OnOk result (self.new.cost ≤ self.old.cost) }
-        ensures least { OnOk result (34 ^ car_count self.old.pool.snapshot ≤ limit → (plan : List (List Stop))
-            → IsMadeOf self.old.pool plan → self.new.cost ≤ plan_cost_of self.old.pool.snapshot plan) }
+        ensures least { OnOk result (34 ^ car_count self.old.pool.snapshot ≤ limits.most_tours
+            → (plan : List (List Stop)) → IsMadeOf self.old.pool plan
+            → self.new.cost ≤ plan_cost_of self.old.pool.snapshot plan) }
     {
         let below = self.cost;
-        let Choice { plan, cost, .. } = self.pool.select_below(alloc, prices, below, limit)?;
+        let tries = limits.most_tours();
+        let Choice { plan, cost, .. } = self.pool.select_below(alloc, prices, below, tries)?;
         if let Some(plan) = plan {
             self.offer(plan, cost);
         }

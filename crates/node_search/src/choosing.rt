@@ -104,7 +104,8 @@ fn marked(
     calls: usize,
 ) -> Result<Vec<usize>, AllocError>
     requires { calls ≤ MOST_CALLS }
-    ensures { IfOk result (λ places. (s : Snapshot) → call_count s ≡ calls → AreSome s cost branches.now places.items) }
+    ensures { IfOk result (λ places. (s : Snapshot) → call_count s ≡ calls
+        → AreSome s cost branches.now places.items) }
 {
     let mut places = Vec::new(alloc);
     for place in 0..branches.len() {

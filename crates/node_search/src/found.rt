@@ -30,6 +30,7 @@ use byte_streams::{Gate, Progress};
 use call_state::Snapshot;
 use elevator_model::{MOST_CALLS, Plan};
 use pricing_rounds::{PricingCrew, desks_for};
+use root_turns::TurnSeries;
 use search_model::{Interruption, Items, Limits, Stated, StopReason, Turn};
 use search_tree::{Branch, SearchTree, Sheet, first_choice};
 use std::alloc::{AllocError, Global};
@@ -172,10 +173,9 @@ fn begin<'a, P: Pricer>(
     let Root {
         mut tree,
         best,
-        turns,
-        prices,
-        ..
+        series,
     } = root;
+    let TurnSeries { turns, prices, .. } = series;
     let calls = prices.len();
     note_turns(&mut tree, &turns);
     split_where_due(alloc, &mut tree, turns.len(), calls)?;
@@ -217,7 +217,7 @@ fn go_on<'a, P: Pricer, C: PricingCrew<P>, G: Gate>(
         turns,
         ..
     } = begin(runtime.alloc, pricer, root, limits)?;
-    let ended = search.run(runtime, pricer, limits.rounds(), limits.most_tours(), desks);
+    let ended = search.run(runtime, pricer, limits, desks);
     let is_told = Interruption::was_told(ended)?;
     Ok(Begun {
         search,
@@ -272,13 +272,8 @@ fn close<P: Pricer>(
     ensures why { IfOk result (λ f. f.why ≡ Solved) }
     ensures sized { IfOk result (λ f. All IsSizedTwig f.tree.twigs) }
 {
-    let Root {
-        tree,
-        best,
-        turns,
-        ..
-    } = root;
-    answer(alloc, tree, best, turns, StopReason::Solved)
+    let Root { tree, best, series } = root;
+    answer(alloc, tree, best, series.turns, StopReason::Solved)
 }
 
 /// The answer of a search that was told to stop before its turns were done. It fails only where there is no
@@ -299,13 +294,8 @@ fn stop_turning<P: Pricer>(
     ensures why { IfOk result (λ f. f.why ≡ Told) }
     ensures sized { IfOk result (λ f. All IsSizedTwig f.tree.twigs) }
 {
-    let Root {
-        tree,
-        best,
-        turns,
-        ..
-    } = root;
-    answer(alloc, tree, best, turns, StopReason::Told)
+    let Root { tree, best, series } = root;
+    answer(alloc, tree, best, series.turns, StopReason::Told)
 }
 
 /// The answer of a search whose rounds were told to stop. It fails only where there is no memory left.
@@ -358,7 +348,7 @@ fn turned<'a, P: Pricer, C: PricingCrew<P>, G: Gate>(
     prove!(snapshot.calls().len() <= MOST_CALLS);
     let mut root = Root::new(runtime.alloc, snapshot, start, sheet)?;
     runtime.gate.tell(Progress::Begins(root.state()));
-    let ended = root.turn_as_due(runtime, pricer, limits.rounds(), limits.most_tours(), desks);
+    let ended = root.turn_as_due(runtime, pricer, limits, desks);
     let is_told = Interruption::was_told(ended)?;
     Ok(AfterTurns { root, is_told })
 }
@@ -413,7 +403,8 @@ fn find_at<P: Pricer, C: PricingCrew<P>, G: Gate>(
 /// Then rounds each price a few leaves of the tree, which are split in time, until cost and bound are the
 /// same, as many rounds were done as `limits` allows, or nothing is left to split. Where the last two come
 /// together, the reason is that nothing is left: `Moves`. Each price and each worth of the tree lies in its
-/// range. The runtime's gate is told how far the search has come. It fails only where there is no memory left.
+/// range. The runtime's gate is told how far the search has come. It fails only where there is no memory
+/// left.
 pub fn find_plan<P: Pricer, C: PricingCrew<P>, G: Gate>(
     runtime: &Runtime<C, G>,
     snapshot: &Snapshot,

@@ -14,7 +14,7 @@ use assign_branch::Pricer;
 use byte_streams::{Gate, Progress};
 use price_scale::Price;
 use pricing_rounds::{PricingCrew, Task, price_nodes};
-use search_model::{Interruption, TurnOf};
+use search_model::{Interruption, Limits, TurnOf};
 use std::alloc::{AllocError, Global};
 use work_fan::Runtime;
 
@@ -92,17 +92,16 @@ impl<'a> Search<'a> {
         &self,
         runtime: &Runtime<C, G>,
         pricer: &P,
-        most_tours: u64,
+        limits: Limits,
         chosen: &[Chosen],
         desks: &mut [P::Desk],
     ) -> Result<Vec<TurnOf>, Interruption>
         requires accepted { IsAccepted (P.snapshot pricer.now) }
-        requires way { IsUnderWay (P.snapshot pricer.now) most_tours self.now }
+        requires way { IsUnderWay (P.snapshot pricer.now) limits.most_tours self.now }
         requires taken { AreTaken (P.snapshot pricer.now) self.now chosen.now }
-        requires most_tours { (1 ≤ most_tours) × (most_tours ≤ 10 ^ 18) }
         requires desks { Serving (P.owns pricer.now) desks.old }
         ensures priced { IfOk result
-            (λ answers. ArePriced (P.snapshot pricer.now) most_tours self.now chosen.now answers.items) }
+            (λ answers. ArePriced (P.snapshot pricer.now) limits.most_tours self.now chosen.now answers.items) }
         ensures goes_on { G.never_stops runtime.now.gate.now
             → IsOkUnless result OutOfMemory }
         ensures desks { All (P.owns pricer.now) desks.new }
@@ -110,7 +109,7 @@ impl<'a> Search<'a> {
         let cars = self.best.pool.snapshot().building().cars().len() as u32;
         let tasks = self.tasks_of(runtime.alloc, chosen)?;
         let sizes = self.sizes_of(runtime.alloc, chosen)?;
-        price_nodes(runtime, pricer, cars, &tasks, &sizes, most_tours, desks)
+        price_nodes(runtime, pricer, cars, &tasks, &sizes, limits, desks)
     }
 
     /// Takes in the pricings of every car in each of these leaves, the last leaf first: a split moves only
@@ -119,16 +118,16 @@ impl<'a> Search<'a> {
         &mut self,
         alloc: Global,
         pricer: &P,
-        most_tours: u64,
+        limits: Limits,
         cars: usize,
         chosen: &[Chosen],
         answers: &[TurnOf],
     ) -> Result<(), AllocError>
         requires accepted { IsAccepted (P.snapshot pricer.now) }
-        requires way { IsUnderWay (P.snapshot pricer.now) most_tours self.old }
+        requires way { IsUnderWay (P.snapshot pricer.now) limits.most_tours self.old }
         requires cars { cars ≡ car_count (P.snapshot pricer.now) }
-        requires priced { ArePriced (P.snapshot pricer.now) most_tours self.old chosen.now answers.now }
-        ensures way { OnOk result (IsUnderWay (P.snapshot pricer.now) most_tours self.new) }
+        requires priced { ArePriced (P.snapshot pricer.now) limits.most_tours self.old chosen.now answers.now }
+        ensures way { OnOk result (IsUnderWay (P.snapshot pricer.now) limits.most_tours self.new) }
         ensures advanced { OnOk result
             (HasAdvanced (P.snapshot pricer.now) (length chosen.now) self.old self.new) }
     {
@@ -136,27 +135,26 @@ impl<'a> Search<'a> {
             let Chosen { place, prices } = &chosen[index];
             let start = index * cars;
             let priced = &answers[start..start + cars];
-            self.settle(alloc, pricer, most_tours, *place, prices, priced)?;
+            self.settle(alloc, pricer, limits, *place, prices, priced)?;
         }
         Ok(())
     }
 
-    /// Prices up to four leaves and takes in what was answered. False, and all is as before, exactly where no
-    /// leaf may be priced any more. It fails only where there is no memory left, or where it was told to stop,
-    /// and then all is as before.
+    /// Prices up to four leaves and takes in what was answered. False, and all is as before, exactly where
+    /// no leaf may be priced any more. It fails only where there is no memory left, or where it was told to
+    /// stop, and then all is as before.
     fn round<P: Pricer, C: PricingCrew<P>, G: Gate>(
         &mut self,
         runtime: &Runtime<C, G>,
         pricer: &P,
-        most_tours: u64,
+        limits: Limits,
         desks: &mut [P::Desk],
     ) -> Result<bool, Interruption>
         requires accepted { IsAccepted (P.snapshot pricer.now) }
-        requires searching { IsSearching (P.snapshot pricer.now) most_tours self.old }
-        requires most_tours { (1 ≤ most_tours) × (most_tours ≤ 10 ^ 18) }
+        requires searching { IsSearching (P.snapshot pricer.now) limits.most_tours self.old }
         requires done { self.old.done < 10 ^ 18 }
         requires desks { Serving (P.owns pricer.now) desks.old }
-        ensures searching { OnOk result (IsSearching (P.snapshot pricer.now) most_tours self.new) }
+        ensures searching { OnOk result (IsSearching (P.snapshot pricer.now) limits.most_tours self.new) }
         ensures done { IfOk result
             (λ more. more ≡ true → HasDoneRound (P.snapshot pricer.now) self.old self.new) }
         ensures busy { IfOk result
@@ -173,41 +171,39 @@ impl<'a> Search<'a> {
             return Ok(false);
         }
         {
-            let answers = self.price(runtime, pricer, most_tours, &chosen, desks)?;
+            let answers = self.price(runtime, pricer, limits, &chosen, desks)?;
             let cars = self.best.pool.snapshot().building().cars().len();
-            self.settle_all(runtime.alloc, pricer, most_tours, cars, &chosen, &answers)?;
+            self.settle_all(runtime.alloc, pricer, limits, cars, &chosen, &answers)?;
         }
-        self.best
-            .select(runtime.alloc, &chosen[0].prices, most_tours)?;
+        self.best.select(runtime.alloc, &chosen[0].prices, limits)?;
         self.done += 1;
         Ok(true)
     }
 
-    /// Rounds until this many were done or no leaf may be priced any more. It fails only where there is no
-    /// memory left, or where they were told to stop.
+    /// Rounds until as many were done as the limits have or no leaf may be priced any more. It fails only
+    /// where there is no memory left, or where they were told to stop.
     pub(crate) fn run<P: Pricer, C: PricingCrew<P>, G: Gate>(
         &mut self,
         runtime: &Runtime<C, G>,
         pricer: &P,
-        rounds: u64,
-        most_tours: u64,
+        limits: Limits,
         desks: &mut [P::Desk],
     ) -> Result<(), Interruption>
         requires accepted { IsAccepted (P.snapshot pricer.now) }
-        requires searching { IsSearching (P.snapshot pricer.now) most_tours self.old }
-        requires most_tours { (1 ≤ most_tours) × (most_tours ≤ 10 ^ 18) }
-        requires rounds { (self.old.done ≤ rounds) × (rounds ≤ 10 ^ 18) }
+        requires searching { IsSearching (P.snapshot pricer.now) limits.most_tours self.old }
+        requires done { self.old.done ≤ limits.rounds }
         requires desks { Serving (P.owns pricer.now) desks.old }
-        ensures searching { OnOk result (IsSearching (P.snapshot pricer.now) most_tours self.new) }
-        ensures run { OnOk result (HasRun (P.snapshot pricer.now) rounds self.old self.new) }
-        ensures told { IsErrOf result Told → IsSearching (P.snapshot pricer.now) most_tours self.new
-            × HasGoneOn (P.snapshot pricer.now) rounds self.old self.new }
+        ensures searching { OnOk result (IsSearching (P.snapshot pricer.now) limits.most_tours self.new) }
+        ensures run { OnOk result (HasRun (P.snapshot pricer.now) limits.rounds self.old self.new) }
+        ensures told { IsErrOf result Told → IsSearching (P.snapshot pricer.now) limits.most_tours self.new
+            × HasGoneOn (P.snapshot pricer.now) limits.rounds self.old self.new }
         ensures goes_on { G.never_stops runtime.now.gate.now
             → IsOkUnless result OutOfMemory }
         ensures desks { All (P.owns pricer.now) desks.new }
     {
+        let rounds = limits.rounds();
         while self.done < rounds {
-            if !self.round(runtime, pricer, most_tours, desks)? {
+            if !self.round(runtime, pricer, limits, desks)? {
                 break;
             }
             runtime.gate.tell(Progress::Goes(self.state()));

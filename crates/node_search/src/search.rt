@@ -19,7 +19,7 @@ use assign_branch::{Node, Pricer};
 use branching_rules::Steps;
 use elevator_model::{MOST_CALLS, Plan};
 use price_scale::{Price, SCALE};
-use search_model::TurnOf;
+use search_model::{Limits, TurnOf};
 use search_tree::{Branch, MOST_PRICINGS, SearchTree, SplitAt, first_choice};
 use std::alloc::{AllocError, Global};
 use tour_cost::plan_cost;
@@ -73,7 +73,7 @@ impl<'a> Best<'a> {
         &mut self,
         alloc: Global,
         pricer: &P,
-        most_tours: u64,
+        limits: Limits,
         node: &Node,
         prices: &[Price],
         cars: &[TurnOf],
@@ -81,7 +81,7 @@ impl<'a> Best<'a> {
         requires best { IsBest (P.snapshot pricer.now) self.old }
         requires node { IsNodeOf (P.snapshot pricer.now) node.now }
         requires single { AreSingle (call_count (P.snapshot pricer.now)) node.now }
-        requires answers { AreAnswersIn (P.snapshot pricer.now) most_tours node.now prices.now cars.now }
+        requires answers { AreAnswersIn (P.snapshot pricer.now) limits.most_tours node.now prices.now cars.now }
         requires none { (c : ℕ) → c < length cars.now
             → (slice_index_or cars.now c no_turn).priced.spent ≡ false }
         ensures best { OnOk result (IsBest (P.snapshot pricer.now) self.new) }
@@ -132,24 +132,25 @@ impl<'a> Search<'a> {
         &mut self,
         alloc: Global,
         pricer: &P,
-        most_tours: u64,
+        limits: Limits,
         place: usize,
         prices: &[Price],
         cars: &[TurnOf],
     ) -> Result<(), AllocError>
         requires accepted { IsAccepted (P.snapshot pricer.now) }
-        requires way { IsUnderWay (P.snapshot pricer.now) most_tours self.old }
-        requires pricing { IsPricingOf (P.snapshot pricer.now) most_tours self.old place prices.now cars.now }
+        requires way { IsUnderWay (P.snapshot pricer.now) limits.most_tours self.old }
+        requires pricing { IsPricingOf (P.snapshot pricer.now) limits.most_tours
+            self.old place prices.now cars.now }
         requires single { AreSingle (call_count (P.snapshot pricer.now))
             (at_place self.old.tree.branches place).node }
-        ensures way { OnOk result (IsUnderWay (P.snapshot pricer.now) most_tours self.new) }
+        ensures way { OnOk result (IsUnderWay (P.snapshot pricer.now) limits.most_tours self.new) }
         ensures settled { OnOk result (HasSettled (P.snapshot pricer.now) self.old self.new place) }
     {
         self.tree.note(place, prices, cars);
         let branch = &self.tree.branches()[place];
         if branch.spent.is_none() {
             self.best
-                .offer_tours(alloc, pricer, most_tours, &branch.node, prices, cars)?;
+                .offer_tours(alloc, pricer, limits, &branch.node, prices, cars)?;
         }
         Ok(())
     }
@@ -160,19 +161,20 @@ impl<'a> Search<'a> {
         &mut self,
         alloc: Global,
         pricer: &P,
-        most_tours: u64,
+        limits: Limits,
         place: usize,
         prices: &[Price],
         cars: &[TurnOf],
         first: SplitAt,
     ) -> Result<(), AllocError>
         requires accepted { IsAccepted (P.snapshot pricer.now) }
-        requires way { IsUnderWay (P.snapshot pricer.now) most_tours self.old }
-        requires pricing { IsPricingOf (P.snapshot pricer.now) most_tours self.old place prices.now cars.now }
+        requires way { IsUnderWay (P.snapshot pricer.now) limits.most_tours self.old }
+        requires pricing { IsPricingOf (P.snapshot pricer.now) limits.most_tours
+            self.old place prices.now cars.now }
         requires call { first.call < call_count (P.snapshot pricer.now) }
         requires part { is_part (set_of (at_place self.old.tree.branches place).node first.call)
             first.part ≡ true }
-        ensures way { OnOk result (IsUnderWay (P.snapshot pricer.now) most_tours self.new) }
+        ensures way { OnOk result (IsUnderWay (P.snapshot pricer.now) limits.most_tours self.new) }
         ensures settled { OnOk result (HasSettled (P.snapshot pricer.now) self.old self.new place) }
     {
         let Best { cost, seen, .. } = &self.best;
@@ -190,22 +192,23 @@ impl<'a> Search<'a> {
         &mut self,
         alloc: Global,
         pricer: &P,
-        most_tours: u64,
+        limits: Limits,
         place: usize,
         prices: &[Price],
         cars: &[TurnOf],
     ) -> Result<(), AllocError>
         requires accepted { IsAccepted (P.snapshot pricer.now) }
-        requires way { IsUnderWay (P.snapshot pricer.now) most_tours self.old }
-        requires pricing { IsPricingOf (P.snapshot pricer.now) most_tours self.old place prices.now cars.now }
-        ensures way { OnOk result (IsUnderWay (P.snapshot pricer.now) most_tours self.new) }
+        requires way { IsUnderWay (P.snapshot pricer.now) limits.most_tours self.old }
+        requires pricing { IsPricingOf (P.snapshot pricer.now) limits.most_tours
+            self.old place prices.now cars.now }
+        ensures way { OnOk result (IsUnderWay (P.snapshot pricer.now) limits.most_tours self.new) }
         ensures settled { OnOk result (HasSettled (P.snapshot pricer.now) self.old self.new place) }
     {
         prove!(self.best.pool.snapshot().calls().len() <= MOST_CALLS);
         self.best.put_tours(alloc, cars)?;
         match first_choice(&self.tree.branches()[place].node, prices.len()) {
-            Some(first) => self.settle_open(alloc, pricer, most_tours, place, prices, cars, first),
-            None => self.settle_single(alloc, pricer, most_tours, place, prices, cars),
+            Some(first) => self.settle_open(alloc, pricer, limits, place, prices, cars, first),
+            None => self.settle_single(alloc, pricer, limits, place, prices, cars),
         }
     }
 }

@@ -18,8 +18,8 @@ use search_model::{Turn, TurnOf};
 use search_tree::{Branch, MOST_PRICINGS, SearchTree, SplitAt};
 use std::alloc::{AllocError, Global};
 
-/// Takes in the pricings of all cars of some turns. By how much a turn raised the leaf's sum counts for nothing
-/// here: the root is split after its last turn.
+/// Takes in the pricings of all cars of some turns. By how much a turn raised the leaf's sum counts for
+/// nothing here: the root is split after its last turn.
 fn note_all(steps: &mut Steps, turns: &[Turn]) {
     for turn in turns {
         let spent = turn.cars.as_slice().iter().any(|car| car.priced.spent);
@@ -62,8 +62,8 @@ fn note(tree: &mut SearchTree<Steps>, place: usize, prices: &[Price], cars: &[Tu
     note_gain(tree, place, cars, gain, spent);
 }
 
-/// Takes in what the relaxation over the tours seen says of the node at this place after a pricing, where the best
-/// known plan costs this many cost units. It fails only where there is no memory left.
+/// Takes in what the relaxation over the tours seen says of the node at this place after a pricing, where
+/// the best known plan costs this many cost units. It fails only where there is no memory left.
 pub(crate) fn look_ahead(
     tree: &mut SearchTree<Steps>,
     alloc: Global,
@@ -80,8 +80,8 @@ pub(crate) fn look_ahead(
     Ok(())
 }
 
-/// Takes in a pricing of all cars in the node at this place, at these prices, and what the relaxation over the tours
-/// seen says of the node then. It fails only where there is no memory left.
+/// Takes in a pricing of all cars in the node at this place, at these prices, and what the relaxation over
+/// the tours seen says of the node then. It fails only where there is no memory left.
 pub(crate) fn take_in(
     tree: &mut SearchTree<Steps>,
     alloc: Global,
@@ -134,8 +134,8 @@ fn choice(steps: &Steps, node: &Node, calls: usize, first: SplitAt) -> SplitAt
     }
 }
 
-/// Splits the leaf at this place: as `first` says where nothing else is proposed. Its two parts begin with what
-/// it has. It fails only where there is no memory left.
+/// Splits the leaf at this place: as `first` says where nothing else is proposed. Its two parts begin with
+/// what it has. It fails only where there is no memory left.
 pub(crate) fn split(
     tree: &mut SearchTree<Steps>,
     alloc: Global,

@@ -6,7 +6,7 @@ use branching_rules::Steps;
 use byte_streams::SearchState;
 use search_tree::SearchTree;
 
-/// Where a search stands with this tree and this cost of its cheapest plan, after so many rounds.
+/// Where a search stands with this tree and this cost of its cheapest plan, after this many rounds.
 fn state_of(tree: &SearchTree<Steps>, cost: u64, rounds: u64) -> SearchState {
     let mut open_nodes = 0u64;
     for branch in tree.branches() {
@@ -25,7 +25,7 @@ fn state_of(tree: &SearchTree<Steps>, cost: u64, rounds: u64) -> SearchState {
 impl Root<'_> {
     /// Where the search stands between turns at the root.
     pub(crate) fn state(&self) -> SearchState {
-        state_of(&self.tree, self.best.cost, self.turns.len() as u64)
+        state_of(&self.tree, self.best.cost, self.series.turns.len() as u64)
     }
 }
 

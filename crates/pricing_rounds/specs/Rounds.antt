@@ -28,14 +28,12 @@ AreFallingBy sizes order = IsNonDecreasingBy (λ k. 2 ^ 64 - 1 - slice_index siz
 abbrev pub done_from : List (ℕ × TurnOf) → List (Done TurnOf)
 done_from pairs = map (λ (p : ℕ × TurnOf). record { job = p.0; answer = p.1 }) pairs
 
--- few tasks and cars, so that their pricings can be numbered, what each pricing requires, and which pricing each job is
-pub record IsRound (s : Snapshot) (tasks : List Task) (cars most_tours : ℕ) (order : List ℕ) : Type 0 where
+-- few tasks and cars, so that their pricings can be numbered, and which pricing each job is
+pub record IsRound (s : Snapshot) (tasks : List Task) (cars : ℕ) (order : List ℕ) : Type 0 where
   pub few_tasks : length tasks ≤ 4
   pub few_cars : cars ≤ 16
   pub cars_are : cars ≡ car_count s
   pub each : (i : ℕ) (task : Task) → slice_get tasks i ≡ Some task → IsTaskOf s task
-  pub low : 1 ≤ most_tours
-  pub high : most_tours ≤ 10 ^ 18
   pub drawn : length order ≡ length tasks * cars
   pub below : All (λ p. p < length tasks * cars) order
 

@@ -12,8 +12,8 @@ use std::alloc::{AllocError, Global};
 
 /// Who makes the pricings of a round.
 ///
-/// It is implemented where the pricer is a concrete type: in an `impl` that knows the pricer by its bounds only,
-/// no thread takes it.
+/// It is implemented where the pricer is a concrete type: in an `impl` that knows the pricer by its bounds
+/// only, no thread takes it.
 pub trait PricingCrew<P: Pricer> {
     /// Makes all pricings of a round, at 1 to 16 desks of its pricer: in place `k` stands an answer of the
     /// pricing that the round draws as its `k`-th, or None where the gate, which may be asked before each
@@ -31,8 +31,8 @@ pub trait PricingCrew<P: Pricer> {
             length answers.items ≡ length round.now.tasks.now * round.now.cars) }
         ensures right { IfOk result (λ answers.
             (k : ℕ) (answer : Option TurnOf) → slice_get answers.items k ≡ Some answer
-            → IfSome answer (IsAnswerAt (P.snapshot round.now.pricer.now) round.now.most_tours
-            round.now.tasks.now round.now.cars (slice_index round.now.order.now k))) }
+            → IfSome answer (IsAnswerAt (P.snapshot round.now.pricer.now)
+            round.now.limits.most_tours round.now.tasks.now round.now.cars (slice_index round.now.order.now k))) }
         ensures done { G.never_stops gate.now → IfOk result (λ answers. All IsSome answers.items) }
         ensures desks { All (P.owns round.now.pricer.now) desks.new };
 }

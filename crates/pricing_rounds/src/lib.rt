@@ -4,13 +4,15 @@
 //!
 //! # What is promised
 //!
-//! - `price_nodes` prices every car at each of at most four nodes, by any `Pricer` and any crew at 1 to 16 desks: each
-//!   place has a right answer, in the order of the nodes and, within one, of the cars (`AreAnswersOf`). A round
-//!   that was told to stop answers nothing, and under a gate that never stops none is.
+//! - `price_nodes` prices every car at each of at most four nodes, by any `Pricer` and any crew at 1 to 16
+//!   desks: each place has a right answer, in the order of the nodes and, within one, of the cars
+//!   (`AreAnswersOf`). A round that was told to stop answers nothing, and under a gate that never stops
+//!   none is.
 //!
-//! Each pricing is one job of a `Round`, which a crew does (`PricingCrew`): the calling thread alone, or several
-//! threads with a desk for each. The jobs are drawn by falling size (`drawing_order`), which the caller foretells. No clause rests on what it foretells, since
-//! `in_places` puts each answer of the drawn order into its place.
+//! Each pricing is one job of a `Round`, which a crew does (`PricingCrew`): the calling thread alone, or
+//! several threads with a desk for each. The jobs are drawn by falling size (`drawing_order`), which the
+//! caller foretells. No clause rests on what it foretells, since `in_places` puts each answer of the drawn
+//! order into its place.
 #![tactic(auto)]
 
 mod crews;

@@ -1,6 +1,6 @@
 //! A round of pricings, shared by workers.
 
-ghost use Rattle.std.specs.Prelude.{◌≡◌, ◌*◌, ◌≤◌, ◌^◌, All, IfOk, IsOkUnless, length};
+ghost use Rattle.std.specs.Prelude.{◌≡◌, ◌*◌, ◌≤◌, All, IfOk, IsOkUnless, length};
 ghost use Rattle.elevator_model.specs.Snapshot.{IsAccepted, car_count};
 ghost use Rattle.search_model.specs.declared.interruptions.Interruption.TheVariants.{OutOfMemory};
 ghost use Rattle.work_fan.specs.Work.{Serving};
@@ -12,7 +12,7 @@ use crate::stopping::all_done;
 use crate::tasks::Task;
 use assign_branch::Pricer;
 use byte_streams::{Gate, Progress};
-use search_model::{Interruption, TurnOf};
+use search_model::{Interruption, Limits, TurnOf};
 use std::alloc::{AllocError, Global};
 use work_fan::{Jobs, Runtime};
 
@@ -24,10 +24,10 @@ pub struct Round<'a, P: Pricer> {
     tasks: &'a [Task<'a>],
     cars: u32,
     /// How many partial tours each pricing may try.
-    most_tours: u64,
+    limits: Limits,
     order: &'a [u32],
     alloc: Global,
-    ghost is_round: { IsRound (P.snapshot pricer.now) tasks.now cars most_tours order.now },
+    ghost is_round: { IsRound (P.snapshot pricer.now) tasks.now cars order.now },
 }
 
 impl<'a, P: Pricer> Jobs for Round<'a, P> {
@@ -43,8 +43,8 @@ impl<'a, P: Pricer> Jobs for Round<'a, P> {
 
     ghost serves = { λ it desk. P.owns it.pricer.now desk };
 
-    ghost is_right = { λ it k answer. IfSome answer (IsAnswerAt (P.snapshot it.pricer.now) it.most_tours
-        it.tasks.now it.cars (slice_index it.order.now k)) };
+    ghost is_right = { λ it k answer. IfSome answer (IsAnswerAt (P.snapshot it.pricer.now)
+        it.limits.most_tours it.tasks.now it.cars (slice_index it.order.now k)) };
 
     ghost is_done = { λ _ answer. IsSome answer };
 
@@ -64,9 +64,10 @@ impl<'a, P: Pricer> Jobs for Round<'a, P> {
         let pricing = self.order[k as usize];
         let task = self.tasks[(pricing / self.cars) as usize];
         let car = pricing % self.cars;
+        let most_tours = self.limits.most_tours();
         let priced = self
             .pricer
-            .price(car, task.node, task.prices, self.most_tours, desk);
+            .price(car, task.node, task.prices, most_tours, desk);
         let tour = self.pricer.tour(self.alloc, desk)?;
         Ok(Some(TurnOf { priced, tour }))
     }
@@ -81,34 +82,35 @@ fn visits_of(priced: &[TurnOf]) -> u64 {
     visits
 }
 
-/// Prices every car at each of the nodes, by the runtime's crew: at `i * cars + c` stands the pricing
-/// of car `c` at the node of task `i`, of at most `most_tours` partial tours, and the tour that it gave.
+/// Prices every car at each of the nodes, by the runtime's crew: at `i * cars + c` stands the pricing of
+/// car `c` at the node of task `i`, of at most as many partial tours as `limits` says, and the tour that it
+/// gave.
 ///
 /// `sizes` tells how many partial tours each pricing may try, as far as one can tell, in the order of the
 /// answers. It only says which pricings are drawn first, and may be of any length.
 ///
-/// It needs at most four tasks and 1 to 16 desks of the pricer, which are its own afterwards too, also where
-/// memory ran out. The runtime's gate is asked before the round whether the work may go on, and before each pricing
-/// that the calling thread makes; it is told after the last one how many partial tours were visited. A round that
-/// was told to stop answers nothing. It fails else only where there is no memory left.
+/// It needs at most four tasks and 1 to 16 desks of the pricer, which are its own afterwards too, also
+/// where memory ran out. The runtime's gate is asked before the round whether the work may go on, and
+/// before each pricing that the calling thread makes; it is told after the last one how many partial tours
+/// were visited. A round that was told to stop answers nothing. It fails else only where there is no memory
+/// left.
 pub fn price_nodes<P: Pricer, C: PricingCrew<P>, G: Gate>(
     runtime: &Runtime<C, G>,
     pricer: &P,
     cars: u32,
     tasks: &[Task],
     sizes: &[u64],
-    most_tours: u64,
+    limits: Limits,
     desks: &mut [P::Desk],
 ) -> Result<Vec<TurnOf>, Interruption>
     requires accepted { IsAccepted (P.snapshot pricer.now) }
     requires cars { cars ≡ car_count (P.snapshot pricer.now) }
     requires few { length tasks.now ≤ 4 }
     requires tasks { All (IsTaskOf (P.snapshot pricer.now)) tasks.now }
-    requires limit { (1 ≤ most_tours) × (most_tours ≤ 10 ^ 18) }
     requires desks { Serving (P.owns pricer.now) desks.old }
     ensures count { IfOk result (λ answers. length answers.items ≡ length tasks.now * cars) }
     ensures answers { IfOk result (λ answers. AreAnswersOf (P.snapshot pricer.now)
-        most_tours tasks.now cars answers.items) }
+        limits.most_tours tasks.now cars answers.items) }
     ensures goes_on { G.never_stops runtime.now.gate.now
         → IsOkUnless result OutOfMemory }
     ensures desks { All (P.owns pricer.now) desks.new }
@@ -122,7 +124,7 @@ pub fn price_nodes<P: Pricer, C: PricingCrew<P>, G: Gate>(
         pricer,
         tasks,
         cars,
-        most_tours,
+        limits,
         order: &order,
         alloc: runtime.alloc,
     };

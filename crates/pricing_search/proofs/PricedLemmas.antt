@@ -91,7 +91,8 @@ priced s node c prices least most found answer is r = record {
   low = r.low;
   high = r.high;
   exact = λ e. reaches (r.exact e);
-  spent = λ e. (r.spent e, many_tours s node c most (let many = r.many in let all = r.spent e in omega (arith, many, all)));
+  reached = r.reached;
+  spent = λ e. many_tours s node c most (let many = r.many in let all = r.reached.0 e in omega (arith, many, all));
   least = subst (λ (z : ℤ). z ≤ℤ answer.worth) is r.at_least;
 }
   where

@@ -1,9 +1,9 @@
 -- What a dive and a walk together answer.
 use Rattle.std.proofs.Common.{◌≡◌, ℕ, ◌+◌, ◌<◌, ◌≤◌, true, false, cond, List, [], length, refl, sym, ap, ◌∙◌, subst, inl, inr, arith, Some}
-use Rattle.std.specs.Prelude.{ℤ, ◌≤ℤ◌, ◌^◌, pos, int_lt, nat_eq}
+use Rattle.std.specs.Prelude.{ℤ, ◌≤ℤ◌, ◌^◌, ◌↔◌, pos, int_lt, nat_eq}
 use Rattle.std.proofs.Math.Nat.{eq-or-lt_of_le}
 use Rattle.std.proofs.lemmas.Int.{ints}
-use Rattle.std.proofs.lemmas.Bool.{cond_both, eqb-true, eqb-false}
+use Rattle.std.proofs.lemmas.Bool.{both_ways, cond_both, eqb-true, eqb-false}
 use Rattle.call_sets.specs.Counting.{has}
 use Rattle.elevator_model.specs.declared.Move.{Move}
 use Rattle.elevator_model.specs.declared.Stop.{Stop}
@@ -97,9 +97,9 @@ open_worth p = cond (int_lt p.untried p.best) p.untried p.best
 pub searched : (a : Aim) (demand : Demand) (t : PartialTour) (least : ℤ) (most : ℕ) (first last : Progress) (answer : Priced) → IsWalking a demand t
     → HasNoneBelow a least [] → t.moves ≡ [] → Begins (aim_at t demand a.price) first → Visited t demand a.price most first last → 1 ≤ most → IsBoundSize least
     → answer.worth ≡ cond (int_lt least (open_worth last)) (open_worth last) least → answer.visits ≡ cond (nat_eq last.visits 0) 1 last.visits
-    → (answer.spent ≡ true → answer.visits ≡ most) → (answer.spent ≡ false → answer.visits ≡ most → ⊥)
+    → (answer.spent ≡ true) ↔ (answer.visits ≡ most)
     → IsSearched (aim_at t demand a.price) least most last.found answer
-searched a demand t least most first last answer w none empty begins walked some size worth_is visits_are spent unspent = record {
+searched a demand t least most first last answer w none empty begins walked some size worth_is visits_are reached = record {
   low = (let h = (one_at_least last.visits).0 in omega (arith, h, visits_are));
   high = within;
   worth = λ tour inside.
@@ -122,7 +122,7 @@ searched a demand t least most first last answer w none empty begins walked some
   exact = λ e. subst (IsFoundTour aim last.found)
       (sym (worth_is ∙ ap (λ (z : ℤ). cond (int_lt least z) z least) (lesser_same last.untried last.best (best_known e))
       ∙ greater_same last.best least found_least)) walked.found;
-  spent = spent;
+  reached = reached;
   many = few_enough;
 }
   where
@@ -151,7 +151,7 @@ searched a demand t least most first last answer w none empty begins walked some
     best_known : answer.spent ≡ false → last.best ≤ℤ last.untried
     best_known e =
         let more = (one_at_least last.visits).1 in
-        let not_all = unspent e in
+        let not_all : answer.visits ≡ most → ⊥ = λ all. both_ways answer.spent e (reached.1 all) in
         let lt : last.visits < most = elim (eq-or-lt_of_le within) [ inl same ↦ absurd (not_all same) | inr below ↦ omega (arith, more, below, visits_are) ] in
         let same = walked.on.unspent lt in
         let u = begins.untried in

@@ -1,5 +1,5 @@
 -- What a search for a car's cheapest tour answers.
-use Rattle.std.specs.Prelude.{◌≡◌, ℕ, ◌≤◌, ℤ, ◌≤ℤ◌, List, length, Bool, true, false, Some}
+use Rattle.std.specs.Prelude.{◌≡◌, ◌↔◌, ℕ, ◌≤◌, ℤ, ◌≤ℤ◌, List, length, Bool, true, false, Some}
 use Rattle.elevator_model.specs.declared.Move.{Move}
 use Rattle.elevator_model.specs.declared.Stop.{Stop}
 use Rattle.elevator_model.specs.Snapshot.{Snapshot, IsAccepted}
@@ -30,7 +30,7 @@ pub record IsSearched (a : Aim) (least : ℤ) (most : ℕ) (found : List Move) (
   pub at_least : least ≤ℤ answer.worth
   pub finds : FindsSome a found
   pub exact : answer.spent ≡ false → IsFoundTour a found answer.worth
-  pub spent : answer.spent ≡ true → answer.visits ≡ most
+  pub reached : (answer.spent ≡ true) ↔ (answer.visits ≡ most)
   pub many : answer.visits ≤ length (partial_tours a.snapshot a.car a.allowed)
 
 -- ---- desks
@@ -66,6 +66,7 @@ pub record IsPriced (s : Snapshot) (node : Node) (c : ℕ) (prices : List ℤ) (
   pub low : 1 ≤ answer.visits
   pub high : answer.visits ≤ most
   pub exact : answer.spent ≡ false → ReachesLeast s node c (price_at prices) answer.worth
-  pub spent : answer.spent ≡ true → (answer.visits ≡ most) × HasPartialTours s node c most
+  pub reached : (answer.spent ≡ true) ↔ (answer.visits ≡ most)
+  pub spent : answer.spent ≡ true → HasPartialTours s node c most
   -- the worth is no less than the completion bound of the empty partial tour
   pub least : bound_of_empty s node c prices ≤ℤ answer.worth

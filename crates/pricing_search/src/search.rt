@@ -27,7 +27,7 @@ pub(crate) fn search<D: TourBound, W: TourBound>(
     dive_bound: &D,
     walk_bound: &W,
     demand: &Demand,
-    limit: u64,
+    most_tours: u64,
     least: i128,
     prefix: &mut Prefix,
     progress: &mut Progress,
@@ -39,12 +39,12 @@ pub(crate) fn search<D: TourBound, W: TourBound>(
     requires same { D.aim dive_bound.now ≡ W.aim walk_bound.now }
     requires demands { IsDemand prefix.old.snapshot prefix.old.car (has demand.now.allowed)
         (has demand.now.required) }
-    requires limit { 1 ≤ limit }
+    requires most_tours { 1 ≤ most_tours }
     requires least { HasNoneBelow (W.aim walk_bound.now) least [] }
     requires size { IsBoundSize least }
     ensures prefix { prefix.new ≡ prefix.old }
     ensures searched { IsSearched (aim_at prefix.old demand.now (W.aim walk_bound.now).price)
-        least limit progress.new.found result }
+        least most_tours progress.new.found result }
 {
     let begun = dive_bound.start(prefix);
     let sums = walk_bound.start(prefix);
@@ -53,11 +53,11 @@ pub(crate) fn search<D: TourBound, W: TourBound>(
         bound: walk_bound,
         demand,
     };
-    visit(&guide, limit, prefix, &sums, progress);
+    visit(&guide, most_tours, prefix, &sums, progress);
     let visits = progress.visits();
     Priced {
         worth: progress.worth().max(least),
         visits,
-        spent: visits == limit,
+        spent: visits == most_tours,
     }
 }

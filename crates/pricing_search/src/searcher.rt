@@ -1,6 +1,6 @@
 //! Searchers and their desks.
 
-ghost use Rattle.std.specs.Prelude.{◌≡◌, ◌<◌, ◌≤◌, ◌^◌, ◌≤ℤ◌, false, length, true};
+ghost use Rattle.std.specs.Prelude.{◌≡◌, ◌↔◌, ◌<◌, ◌≤◌, ◌^◌, ◌≤ℤ◌, false, length, true};
 ghost use Rattle.elevator_model.specs.Snapshot.{car_count, call_count};
 ghost use Rattle.search_model.specs.Nodes.{IsNodeOf};
 ghost use Rattle.search_model.specs.Prices.{IsWorth, price_at};
@@ -53,7 +53,7 @@ impl<'a> Searcher<'a> {
         car: u32,
         node: &Node,
         prices: &[Price],
-        limit: u64,
+        most_tours: u64,
         desk: &mut Desk<'a>,
     ) -> Priced
         requires own { IsDeskOf self.now.snapshot.now desk.old.prefix desk.old.rates
@@ -61,10 +61,10 @@ impl<'a> Searcher<'a> {
         requires car { car < car_count self.now.snapshot.now }
         requires node { IsNodeOf self.now.snapshot.now node.now }
         requires prices { length prices.now ≡ call_count self.now.snapshot.now }
-        requires limit { (1 ≤ limit) × (limit ≤ 10 ^ 18) }
+        requires most_tours { (1 ≤ most_tours) × (most_tours ≤ 10 ^ 18) }
         ensures own { IsDeskOf self.now.snapshot.now desk.new.prefix desk.new.rates
             desk.new.route_rates desk.new.progress.found desk.new.has_priced }
-        ensures priced { IsPriced self.now.snapshot.now node.now car prices.now limit
+        ensures priced { IsPriced self.now.snapshot.now node.now car prices.now most_tours
             desk.new.progress.found desk.new.has_priced result }
     {
         let demand = Demand {
@@ -92,7 +92,7 @@ impl<'a> Searcher<'a> {
             &rides,
             &walk_bound,
             &demand,
-            limit,
+            most_tours,
             least,
             &mut desk.prefix,
             &mut desk.progress,
@@ -129,7 +129,7 @@ impl<'a> Pricer for Searcher<'a> {
         car: u32,
         node: &Node,
         prices: &[Price],
-        limit: u64,
+        most_tours: u64,
         desk: &mut Desk<'a>,
     ) -> Priced
         requires own { IsDeskOf self.now.snapshot.now desk.old.prefix desk.old.rates
@@ -137,21 +137,22 @@ impl<'a> Pricer for Searcher<'a> {
         requires car { car < car_count self.now.snapshot.now }
         requires node { IsNodeOf self.now.snapshot.now node.now }
         requires prices { length prices.now ≡ call_count self.now.snapshot.now }
-        requires limit { (1 ≤ limit) × (limit ≤ 10 ^ 18) }
+        requires most_tours { (1 ≤ most_tours) × (most_tours ≤ 10 ^ 18) }
         ensures own { IsDeskOf self.now.snapshot.now desk.new.prefix desk.new.rates
             desk.new.route_rates desk.new.progress.found desk.new.has_priced }
         ensures held { HoldsPricing self.now.snapshot.now desk.new.progress.found desk.new.has_priced
             (record { car = car; node = node.now; prices = prices.now; answer = result }) }
         ensures worth { IsWorth self.now.snapshot.now node.now car (price_at prices.now) result.worth }
         ensures size { IsWorthSize result.worth }
-        ensures visits { (1 ≤ result.visits) × (result.visits ≤ limit) }
+        ensures visits { (1 ≤ result.visits) × (result.visits ≤ most_tours) }
         ensures least { result.spent ≡ false
             → ReachesLeast self.now.snapshot.now node.now car (price_at prices.now) result.worth }
         ensures spent { result.spent ≡ true
-            → (result.visits ≡ limit) × HasPartialTours self.now.snapshot.now node.now car limit }
+            → HasPartialTours self.now.snapshot.now node.now car most_tours }
+        ensures reached { (result.spent ≡ true) ↔ (result.visits ≡ most_tours) }
         ensures bound { bound_of_empty self.now.snapshot.now node.now car prices.now ≤ℤ result.worth }
     {
-        self.price_car(car, node, prices, limit, desk)
+        self.price_car(car, node, prices, most_tours, desk)
     }
 
     fn tour(&self, alloc: Global, desk: &Desk<'a>) -> Result<Option<Tour>, AllocError> {

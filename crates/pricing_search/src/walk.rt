@@ -20,18 +20,18 @@ use pricing_bound::TourBound;
 #[cycle(walk)]
 pub(crate) fn visit<B: TourBound>(
     guide: &Guide<B>,
-    limit: u64,
+    most_tours: u64,
     prefix: &mut Prefix,
     sums: &B::Sums,
     progress: &mut Progress,
 )
     requires walking { IsWalking (B.aim guide.now.bound.now) guide.now.demand.now prefix.old }
     requires stands { IsOpen (B.stands guide.now.bound.now sums.now) guide.now.demand.now prefix.old }
-    requires limit { progress.old.visits ≤ limit }
+    requires most_tours { progress.old.visits ≤ most_tours }
     requires found { HasFound (aim_at prefix.old guide.now.demand.now
         (B.aim guide.now.bound.now).price) progress.old }
     ensures prefix { prefix.new ≡ prefix.old }
-    ensures visited { Visited prefix.old guide.now.demand.now (B.aim guide.now.bound.now).price limit
+    ensures visited { Visited prefix.old guide.now.demand.now (B.aim guide.now.bound.now).price most_tours
         progress.old progress.new }
 {
     let bound = guide.bound;
@@ -39,7 +39,7 @@ pub(crate) fn visit<B: TourBound>(
     if progress.is_reached(least) {
         return;
     }
-    if progress.visits >= limit {
+    if progress.visits >= most_tours {
         progress.leave_out(least);
         return;
     }
@@ -54,14 +54,16 @@ pub(crate) fn visit<B: TourBound>(
     let others = followers.without_leaves(stops);
     let mut next = others.first();
     while let Some(choice) = next {
-        visit_after(guide, limit, prefix, sums, &departure, choice, progress);
+        visit_after(
+            guide, most_tours, prefix, sums, &departure, choice, progress,
+        );
         next = others.after(choice);
     }
     let here = prefix.floor();
     while let Some(floor) = nearest(stops, here) {
         stops = stops.without(floor);
         let leave = Move::Leave(floor);
-        visit_after(guide, limit, prefix, sums, &departure, leave, progress);
+        visit_after(guide, most_tours, prefix, sums, &departure, leave, progress);
     }
 }
 
@@ -70,7 +72,7 @@ pub(crate) fn visit<B: TourBound>(
 #[cycle(walk)]
 fn visit_after<B: TourBound>(
     guide: &Guide<B>,
-    limit: u64,
+    most_tours: u64,
     prefix: &mut Prefix,
     sums: &B::Sums,
     departure: &B::Departure,
@@ -81,12 +83,12 @@ fn visit_after<B: TourBound>(
     requires stands { IsOpen (B.stands guide.now.bound.now sums.now) guide.now.demand.now prefix.old }
     requires departs { IsOpen (B.departs guide.now.bound.now departure.now) guide.now.demand.now prefix.old }
     requires next { MayFollow guide.now.demand.now prefix.old next }
-    requires limit { progress.old.visits ≤ limit }
+    requires most_tours { progress.old.visits ≤ most_tours }
     requires found { HasFound (aim_at prefix.old guide.now.demand.now
         (B.aim guide.now.bound.now).price) progress.old }
     ensures prefix { prefix.new ≡ prefix.old }
     ensures visited { Visited (with_move prefix.old next) guide.now.demand.now
-        (B.aim guide.now.bound.now).price limit progress.old progress.new }
+        (B.aim guide.now.bound.now).price most_tours progress.old progress.new }
 {
     let worth = progress.best;
     let bound = guide.bound;
@@ -94,6 +96,6 @@ fn visit_after<B: TourBound>(
     let Some(sums) = step_below(bound, demand, prefix, sums, departure, next, worth) else {
         return;
     };
-    visit(guide, limit, prefix, &sums, progress);
+    visit(guide, most_tours, prefix, &sums, progress);
     prefix.pop();
 }

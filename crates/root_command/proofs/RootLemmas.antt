@@ -64,7 +64,8 @@ done_or_stopped Gap = inr refl
 done_or_stopped (Moves car count) = inr refl
 done_or_stopped (Pairs count) = inr refl
 
-either_of : (s : Snapshot) (rounds most_tours : ℕ) (status : Status) (text : List ℕ) → IsRootTold s rounds most_tours status text → (status ≡ Done) ⊎ (status ≡ Stopped)
+either_of : (s : Snapshot) (rounds most_tours : ℕ) (status : Status) (text : List ℕ) → IsRootTold s rounds most_tours status text → (status ≡ Done)
+    ⊎ (status ≡ Stopped)
 either_of s rounds most_tours status text told = elim (done_or_stopped told.answer.why) [
   | inl done ↦ inl (told.status_is ∙ done)
   | inr stopped ↦ inr (told.status_is ∙ stopped)
@@ -76,7 +77,8 @@ pub ends_told : (rounds most_tours : ℕ) (left left' : Option (List ℕ)) (old 
     → RootAnswerIsDue rounds most_tours left left' status text → Puts text status result old.taken new.taken old.write_faults new.write_faults
     → Ends (RootDue rounds most_tours left left') old new result
 ends_told rounds most_tours left left' old new text status result due put =
-    ends_either (RootDue rounds most_tours left left') old new text Done Stopped status result (λ (x : Status). RootAnswerIsDue rounds most_tours left left' x text)
+    ends_either (RootDue rounds most_tours left left') old new text Done Stopped status result
+    (λ (x : Status). RootAnswerIsDue rounds most_tours left left' x text)
     (λ h. h) (λ wrote. wrote) (λ h. h) (λ wrote. wrote) (either_of due.snapshot rounds most_tours status text due.told) due put
 
 -- what is wrong with the input, where it is known

@@ -13,7 +13,8 @@
 //!
 //! `specs/RootTexts.antt` has the text (`root_text`, worked in `specs/WorkedTexts.antt`), and
 //! `specs/RootOutcome.antt` the definitions: `ends` says for each status what was read and written
-//! (`RootDue`), `answers` that a case is answered (`AnswersRoot`), and `refuses` that any other input is refused (`RefusesRoot`).
+//! (`RootDue`), `answers` that a case is answered (`AnswersRoot`), and `refuses` that any other input is
+//! refused (`RefusesRoot`).
 #![tactic(auto)]
 
 mod rooting;

@@ -1,5 +1,5 @@
 //! The command `root`.
-ghost use Rattle.std.specs.Prelude.{◌≡◌, ◌≤◌, ◌^◌, IfErr, IfOk, OnOk, IsErrOf, option_map};
+ghost use Rattle.std.specs.Prelude.{◌≡◌, ◌≤◌, IfErr, IfOk, OnOk, IsErrOf, option_map};
 ghost use Rattle.std.specs.Io.KnownBytes.{IsAtEnd};
 ghost use Rattle.byte_streams.specs.Streams.{Rose};
 ghost use Rattle.elevator_model.specs.Snapshot.{IsAccepted};
@@ -17,6 +17,7 @@ use case_text::read_lone_case;
 use command_ends::{Answer, Status, put, put_fault};
 use lift_text::{LineReader, TextFault};
 use root_prices::{MOST_ROUNDS, RootReason};
+use search_model::Limits;
 use snapshot_solver::solve_root;
 use std::alloc::{AllocError, Global};
 
@@ -52,36 +53,30 @@ fn status_of(why: RootReason) -> Status
 }
 
 /// The text of what turns at the root tell, and its status. It fails only where there is no memory left.
-fn answer_of(
-    alloc: Global,
-    rounds: u32,
-    most_tours: u64,
-    snapshot: &Snapshot,
-) -> Result<Answer, AllocError>
-    requires rounds { (1 ≤ rounds) × (rounds ≤ MOST_ROUNDS) }
-    requires most_tours { (1 ≤ most_tours) × (most_tours ≤ 10 ^ 18) }
+fn answer_of(alloc: Global, limits: Limits, snapshot: &Snapshot) -> Result<Answer, AllocError>
+    requires { limits.rounds ≤ MOST_ROUNDS }
     ensures { IfOk result (λ answer.
-        IsRootTold snapshot.now rounds most_tours answer.status answer.text.items) }
+        IsRootTold snapshot.now limits.rounds limits.most_tours answer.status answer.text.items) }
 {
-    let answer = solve_root(alloc, snapshot, rounds, most_tours)?;
+    let answer = solve_root(alloc, snapshot, limits)?;
     let text = root_text(alloc, snapshot, &answer)?;
     let status = status_of(answer.why);
     Ok(Answer { status, text })
 }
 
-/// Reads a case, and writes the best prices of this many turns at the root and the cheapest plan in halves of
-/// their tours, and whether the two meet; or what is wrong with the input. Each pricing tries at most
-/// `most_tours` partial tours, and the search for the plan in halves as many partial pairings.
+/// Reads a case, and writes the best prices of as many turns at the root as the limits have rounds and the
+/// cheapest plan in halves of their tours, and whether the two meet; or what is wrong with the input. The
+/// limit of partial tours holds for each pricing, and for the partial pairings that the search for the plan
+/// in halves tries.
 pub fn root<S: Source, K: Sink>(
     alloc: Global,
-    rounds: u32,
-    most_tours: u64,
+    limits: Limits,
     source: &mut S,
     sink: &mut K,
 ) -> Status
-    requires rounds { (1 ≤ rounds) × (rounds ≤ MOST_ROUNDS) }
-    requires most_tours { (1 ≤ most_tours) × (most_tours ≤ 10 ^ 18) }
-    ensures ends { Ends (RootDue rounds most_tours (S.left source.old) (S.left source.new))
+    requires { limits.rounds ≤ MOST_ROUNDS }
+    ensures ends { Ends
+        (RootDue limits.rounds limits.most_tours (S.left source.old) (S.left source.new))
         (streams (S.left source.old) (K.taken sink.old) (S.faults source.old) (K.faults sink.old))
         (streams (S.left source.new) (K.taken sink.new) (S.faults source.new)
         (K.faults sink.new)) result }
@@ -95,7 +90,7 @@ pub fn root<S: Source, K: Sink>(
         (K.faults sink.new)) result }
 {
     match read_input(alloc, source) {
-        Ok(snapshot) => match answer_of(alloc, rounds, most_tours, &snapshot) {
+        Ok(snapshot) => match answer_of(alloc, limits, &snapshot) {
             Ok(answer) => put(sink, answer.text.as_slice(), answer.status),
             Err(_) => Status::Memory,
         },

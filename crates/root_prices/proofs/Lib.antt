@@ -1,5 +1,5 @@
 pub mod ListLaws
-pub mod SeriesLaws
+pub mod KeptLaws
 pub mod DoubleLaws
 pub mod ReasonLaws
 pub mod MeetingLaws

@@ -16,10 +16,10 @@ use Rattle.half_plans.specs.Mixtures.{IsMixture, MixtureLaw}
 use Rattle.half_plans.specs.PairPlans.{ArePairShares, AreTourLists, HalvesLaw, IsCheapestPairing, pairing_count}
 use Rattle.root_prices.specs.declared.answers.RootAnswer.{RootAnswer}
 use Rattle.root_prices.specs.declared.reasons.RootReason.{RootReason}
-use Rattle.root_prices.specs.declared.series.Series.{Series}
+use Rattle.root_prices.specs.declared.kept.KeptTurns.{KeptTurns}
 use Rattle.root_prices.specs.Reasons.{IsChosen, IsNoneSpent, IsSpentCar}
 use Rattle.root_prices.specs.RootAnswers.{IsGreatestAtRoot, IsRootAnswer, IsRootReason}
-use Rattle.root_prices.specs.SeriesOfTurns.{IsSeries}
+use Rattle.root_prices.specs.KeptTurns.{AreKept}
 use Rattle.root_prices.proofs.ReasonLaws.{reason_is}
 
 -- a sum of which twice is at most a thousand times the cost, which is at most twice the bound
@@ -35,8 +35,8 @@ mixture_of : (s : Snapshot) (lists : List (List (List Stop))) (shares : List Sha
 mixture_of s lists shares cost law are is =
     subst (λ (xs : List Share). IsMixture s xs 2 cost) (sym is.is) (subst (IsMixture s _ 2) (sym is.cost) (law s lists is.pairs are is.plan))
 
-module _ (most_tours : ℕ) (first : PriceSheet) (x : Series) (shares : List Share) (cost : ℕ) (car : Option ℕ) (spent : Bool) (bound : ℤ) (why : RootReason)
-    (pool : IsPool x.pool) (is : IsSeries x.pool.snapshot most_tours first x) where
+module _ (most_tours : ℕ) (first : PriceSheet) (x : KeptTurns) (shares : List Share) (cost : ℕ) (car : Option ℕ) (spent : Bool) (bound : ℤ) (why : RootReason)
+    (pool : IsPool x.pool) (is : AreKept x.pool.snapshot most_tours first x) where
   abbrev s : Snapshot
   s = x.pool.snapshot
 
@@ -44,15 +44,15 @@ module _ (most_tours : ℕ) (first : PriceSheet) (x : Series) (shares : List Sha
   lists = x.pool.tours
 
   abbrev answer : RootAnswer
-  answer = record { sheet = x.sheet; bound = bound; turns = x.turns.items; shares = shares; cost = cost; why = why }
+  answer = record { sheet = x.sheet; bound = bound; turns = x.series.turns.items; shares = shares; cost = cost; why = why }
 
   pub root_answer : MixtureLaw → HalvesLaw → bound ≡ rounded_up (sum_of_sheet x.sheet)
-      → MatchOption car (All IsNoneSpent x.turns.items) (λ c. Any (IsSpentCar c) x.turns.items) → ArePairShares s lists shares cost
+      → MatchOption car (All IsNoneSpent x.series.turns.items) (λ c. Any (IsSpentCar c) x.series.turns.items) → ArePairShares s lists shares cost
       → cost ≤ 2 * plan_cost_of s x.start.now → (spent ≡ false → IsCheapestPairing s lists (Some shares) cost)
       → (spent ≡ true → most_tours ≤ pairing_count lists) → IsChosen bound cost car spent most_tours why
-      → IsRootAnswer s x.start.now first (length x.turns.items) most_tours answer
+      → IsRootAnswer s x.start.now first (length x.series.turns.items) most_tours answer
   root_answer mixtures halves bound_is found pairs at_most cheapest many chosen = record {
-    root_turns = is.root_turns;
+    root_turns = is.series.root_turns;
     count = refl;
     sheet = is.sheet;
     bound_is = bound_is;
@@ -62,11 +62,12 @@ module _ (most_tours : ℕ) (first : PriceSheet) (x : Series) (shares : List Sha
     at_most = at_most;
     reason = reason;
     mixture = mixture;
-    greatest = λ best. greatest_of_met s shares bound cost mixtures mixture (subst (IsRootReason s most_tours x.turns.items lists bound cost) best reason);
+    greatest = λ best. greatest_of_met s shares bound cost mixtures mixture
+        (subst (IsRootReason s most_tours x.series.turns.items lists bound cost) best reason);
   }
     where
-      reason : IsRootReason s most_tours x.turns.items lists bound cost why
-      reason = reason_is s most_tours first.prices x.turns.items lists bound cost shares car spent is.root_turns found many cheapest why chosen
+      reason : IsRootReason s most_tours x.series.turns.items lists bound cost why
+      reason = reason_is s most_tours first.prices x.series.turns.items lists bound cost shares car spent is.series.root_turns found many cheapest why chosen
 
       mixture : IsMixture s shares 2 cost
       mixture = mixture_of s lists shares cost halves (record { cars = pool.cars; feasible = pool.feasible }) pairs

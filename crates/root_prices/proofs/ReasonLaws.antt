@@ -28,13 +28,17 @@ follow_each s most_tours start i turn [] h = All-nil (IsTurnSomewhere s most_tou
 follow_each s most_tours start i turn (next ∷ turns) h =
     All-cons (IsTurnSomewhere s most_tours) next turns (prices_after s start i turn, h.0) (follow_each s most_tours start (i + 1) next turns h.1)
 
-each_turn : (s : Snapshot) (most_tours : ℕ) (start : List ℤ) (turns : List Turn) → AreRootTurns s most_tours start turns → All (IsTurnSomewhere s most_tours) turns
+each_turn : (s : Snapshot) (most_tours : ℕ) (start : List ℤ) (turns : List Turn) → AreRootTurns s most_tours start turns
+    → All (IsTurnSomewhere s most_tours) turns
 each_turn s most_tours start [] h = All-nil (IsTurnSomewhere s most_tours)
-each_turn s most_tours start (turn ∷ turns) h = All-cons (IsTurnSomewhere s most_tours) turn turns (start, h.0) (follow_each s most_tours start 1 turn turns h.1)
+each_turn s most_tours start (turn ∷ turns) h =
+    All-cons (IsTurnSomewhere s most_tours) turn turns (start, h.0) (follow_each s most_tours start 1 turn turns h.1)
 
-pub few_cars : (s : Snapshot) (most_tours : ℕ) (start : List ℤ) (turns : List Turn) → car_count s ≤ 16 → AreRootTurns s most_tours start turns → All HasFewCars turns
+pub few_cars : (s : Snapshot) (most_tours : ℕ) (start : List ℤ) (turns : List Turn) → car_count s ≤ 16 → AreRootTurns s most_tours start turns
+    → All HasFewCars turns
 few_cars s most_tours start turns few are =
-    All-weaker (IsTurnSomewhere s most_tours) HasFewCars (λ t is. (let cars = is.1.cars in omega (arith, few, cars))) turns (each_turn s most_tours start turns are)
+    All-weaker (IsTurnSomewhere s most_tours) HasFewCars (λ t is. (let cars = is.1.cars in omega (arith, few, cars))) turns
+    (each_turn s most_tours start turns are)
 
 -- a pricing that was spent
 spent_many : (s : Snapshot) (most_tours c : ℕ) (price : ℕ → ℤ) (t : TurnOf) (b : Bool) → b ≡ true → IsPricing s most_tours c price t b
@@ -52,7 +56,8 @@ unspent_all s most_tours start turns are none k d lt c less =
 -- ---- the reason
 
 module _ (s : Snapshot) (most_tours : ℕ) (start : List ℤ) (turns : List Turn) (lists : List (List (List Stop))) (bound : ℤ) (cost : ℕ) (shares : List Share)
-    (car : Option ℕ) (spent : Bool) (are : AreRootTurns s most_tours start turns) (found : MatchOption car (All IsNoneSpent turns) (λ c. Any (IsSpentCar c) turns))
+    (car : Option ℕ) (spent : Bool) (are : AreRootTurns s most_tours start turns)
+    (found : MatchOption car (All IsNoneSpent turns) (λ c. Any (IsSpentCar c) turns))
     (many : spent ≡ true → most_tours ≤ pairing_count lists) (cheapest : spent ≡ false → IsCheapestPairing s lists (Some shares) cost) where
   none_of : car ≡ None → All IsNoneSpent turns
   none_of e = subst (λ (o : Option ℕ). MatchOption o (All IsNoneSpent turns) (λ c. Any (IsSpentCar c) turns)) e found
@@ -83,7 +88,8 @@ module _ (s : Snapshot) (most_tours : ℕ) (start : List ℤ) (turns : List Turn
       many_of : {given : List ℤ} {t u : Turn} → IsRootTurn s most_tours given t → t ≡ u → c < car_count s → (turn_of_car u c).priced.spent ≡ true
           → HasPartialTours s (root_of s) c most_tours
       many_of {given} {t} {u} turn at lt e =
-          spent_many s most_tours c (price_at t.prices) (turn_of_car t c) (turn_of_car t c).priced.spent (ap (λ (x : Turn). (turn_of_car x c).priced.spent) at ∙ e)
+          spent_many s most_tours c (price_at t.prices) (turn_of_car t c) (turn_of_car t c).priced.spent
+          (ap (λ (x : Turn). (turn_of_car x c).priced.spent) at ∙ e)
           (turn.pricings c lt)
   reason_is (Pairs count) h = record {
     apart = h.0.apart;

@@ -2,4 +2,4 @@ pub mod Doubles
 pub mod ListedTours
 pub mod RootAnswers
 pub mod Reasons
-pub mod SeriesOfTurns
+pub mod KeptTurns

@@ -20,16 +20,16 @@
 //!
 //! # How it goes
 //!
-//! `Series` makes the turns by `root_turns`, as a search does, and keeps their tours in a pool, which holds
-//! 32 of a car: so none is dropped in 31 turns (`proofs/SeriesLaws.antt`). `find_halves` asks `half_plans` at
-//! the best prices; where it was spent before it found a cheap pair plan, the start plan twice is one
-//! (`proofs/DoubleLaws.antt`).
+//! `KeptTurns` makes the turns by `root_turns`, as a search does, and keeps their tours in a pool, which
+//! holds 32 of a car: so none is dropped in 31 turns (`proofs/KeptLaws.antt`). `find_halves` asks
+//! `half_plans` at the best prices; where it was spent before it found a cheap pair plan, the start plan
+//! twice is one (`proofs/DoubleLaws.antt`).
 #![tactic(auto)]
 
 mod answers;
 mod halves;
+mod kept;
 mod reasons;
-mod series;
 
 pub use answers::{MOST_ROUNDS, RootAnswer, root_best};
 pub use reasons::RootReason;

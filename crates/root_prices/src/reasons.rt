@@ -55,24 +55,28 @@ fn is_met(bound: i128, cost: u64) -> bool
 }
 
 /// What the bound and the cost of the shares tell, where this car was spent in a turn, if one was, and the
-/// search for shares was spent or not. `limit` is that of the pricings and of the search.
+/// search for shares was spent or not. As many partial tours may a pricing try, and as many partial
+/// pairings the search, as `most_tours` says.
 pub(crate) fn reason_of(
     bound: i128,
     cost: u64,
     car: Option<u32>,
     is_spent: bool,
-    limit: u64,
+    most_tours: u64,
 ) -> RootReason
-    ensures { IsChosen bound cost car is_spent limit result }
+    ensures { IsChosen bound cost car is_spent most_tours result }
 {
     if is_met(bound, cost) {
         return RootReason::Best;
     }
     if let Some(car) = car {
-        return RootReason::Moves { car, count: limit };
+        return RootReason::Moves {
+            car,
+            count: most_tours,
+        };
     }
     if is_spent {
-        RootReason::Pairs { count: limit }
+        RootReason::Pairs { count: most_tours }
     } else {
         RootReason::Gap
     }

@@ -3,3 +3,4 @@ pub mod TurnLists
 pub mod PoolLists
 pub mod PlanPools
 pub mod AnswerLaws
+pub mod SeriesLaws

@@ -1,3 +1,4 @@
 pub mod Turns
 pub mod Pools
 pub mod Dues
+pub mod Series

@@ -1,6 +1,6 @@
 //! The pricings of one turn.
 
-ghost use Rattle.std.specs.Prelude.{◌≡◌, ◌≤◌, ◌^◌, IfOk, IsOkUnless};
+ghost use Rattle.std.specs.Prelude.{◌≡◌, IfOk, IsOkUnless};
 ghost use Rattle.elevator_model.specs.Snapshot.{IsAccepted, car_count};
 ghost use Rattle.search_model.specs.declared.interruptions.Interruption.TheVariants.{OutOfMemory};
 ghost use Rattle.search_tree.specs.Answers.{AreAnswersIn};
@@ -10,7 +10,7 @@ ghost use Rattle.pricing_rounds.specs.Rounds.{IsTaskOf};
 use assign_branch::Pricer;
 use byte_streams::Gate;
 use pricing_rounds::{PricingCrew, Task, price_nodes};
-use search_model::{Interruption, Turn, TurnOf};
+use search_model::{Interruption, Limits, Turn, TurnOf};
 use std::alloc::{AllocError, Global};
 use work_fan::Runtime;
 
@@ -29,21 +29,20 @@ fn sizes_of(alloc: Global, turn: Option<&Turn>) -> Result<Vec<u64>, AllocError> 
 /// The pricings of all cars in one node at these prices, by the runtime's crew. The last turn, if
 /// there was one, only tells which pricings are drawn first. It fails only where there is no memory left, or
 /// where it was told to stop.
-pub fn price_turn<P: Pricer, C: PricingCrew<P>, G: Gate>(
+pub(crate) fn price_turn<P: Pricer, C: PricingCrew<P>, G: Gate>(
     runtime: &Runtime<C, G>,
     pricer: &P,
     cars: u32,
     task: Task,
     last: Option<&Turn>,
-    most_tours: u64,
+    limits: Limits,
     desks: &mut [P::Desk],
 ) -> Result<Vec<TurnOf>, Interruption>
     requires accepted { IsAccepted (P.snapshot pricer.now) }
     requires cars { cars ≡ car_count (P.snapshot pricer.now) }
     requires task { IsTaskOf (P.snapshot pricer.now) task }
-    requires most_tours { (1 ≤ most_tours) × (most_tours ≤ 10 ^ 18) }
     requires desks { Serving (P.owns pricer.now) desks.old }
-    ensures answers { IfOk result (λ answers. AreAnswersIn (P.snapshot pricer.now) most_tours
+    ensures answers { IfOk result (λ answers. AreAnswersIn (P.snapshot pricer.now) limits.most_tours
         task.entry.node.now task.entry.prices.now answers.items) }
     ensures goes_on { G.never_stops runtime.now.gate.now
         → IsOkUnless result OutOfMemory }
@@ -51,5 +50,5 @@ pub fn price_turn<P: Pricer, C: PricingCrew<P>, G: Gate>(
 {
     let tasks = [task];
     let sizes = sizes_of(runtime.alloc, last)?;
-    price_nodes(runtime, pricer, cars, &tasks, &sizes, most_tours, desks)
+    price_nodes(runtime, pricer, cars, &tasks, &sizes, limits, desks)
 }

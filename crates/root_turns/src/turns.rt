@@ -15,7 +15,7 @@ use std::alloc::{AllocError, Global};
 use tour_cost::calls_of;
 
 /// The greatest of 0 and the prices, in thousandths of a cost unit.
-pub fn greatest_of(prices: &[Price]) -> i128
+pub(crate) fn greatest_of(prices: &[Price]) -> i128
     ensures value { result ≡ pos (greatest_price prices.now) }
     ensures high { result ≤ℤ pos (10 ^ 24) }
 {
@@ -28,7 +28,7 @@ pub fn greatest_of(prices: &[Price]) -> i128
 
 /// The step of the turn after these: the first turn's step, divided by the number of the turn and rounded
 /// down.
-pub fn step_after(step: i128, turns: usize) -> i128
+pub(crate) fn step_after(step: i128, turns: usize) -> i128
     requires low { pos 0 ≤ℤ step }
     requires high { step ≤ℤ pos (10 ^ 24) }
     ensures value { (most : ℕ) → step ≡ pos most → result ≡ pos (most / (turns + 1)) }
@@ -84,7 +84,7 @@ fn boards_counts(alloc: Global, cars: &[TurnOf], calls: usize) -> Result<Vec<u32
 
 /// The prices of the turn after one at these prices: each moves by `step * (1 - count)`, where `count` says
 /// in how many of the turn's tours its call boards. It fails only where there is no memory left.
-pub fn prices_after(
+pub(crate) fn prices_after(
     alloc: Global,
     prices: &[Price],
     cars: &[TurnOf],

@@ -123,7 +123,8 @@ pub record IsRootTurn (s : Snapshot) (most_tours : ℕ) (given : List ℤ) (turn
 -- the turns that follow turn i
 abbrev pub FollowTurn : Snapshot → (most_tours : ℕ) → (start : List ℤ) → ℕ → Turn → List Turn → Type 0
 FollowTurn s most_tours start i turn [] = Unit {0}
-FollowTurn s most_tours start i turn (next ∷ turns) = IsRootTurn s most_tours (prices_after s start i turn) next × FollowTurn s most_tours start (i + 1) next turns
+FollowTurn s most_tours start i turn (next ∷ turns) = IsRootTurn s most_tours (prices_after s start i turn) next
+    × FollowTurn s most_tours start (i + 1) next turns
 
 -- Turns at the root from given prices.
 abbrev pub AreRootTurns : Snapshot → (most_tours : ℕ) → (start : List ℤ) → List Turn → Type 0
@@ -231,7 +232,8 @@ abbrev pub IsFound : (start : List ℤ) (least : ℤ) → Snapshot → (rounds m
 IsFound start least s rounds most_tours plan cost bound tree turns why =
     IsEnding (IsReason s rounds most_tours cost bound tree why) start least s rounds most_tours plan cost bound tree turns
 
--- What a search answers that was told to stop: what one of fewer rounds answers, for no other reason.
+-- What a search answers that was told to stop: what holds of one that may do some number of rounds, at most the limit, but
+-- for a reason.
 pub record IsToldAnswer (start : List ℤ) (least : ℤ) (s : Snapshot) (rounds most_tours : ℕ) (plan : List (List Stop)) (cost bound : ℕ) (tree : List Twig)
     (turns : List Turn) : Type 0 where
   pub done : ℕ
@@ -250,7 +252,8 @@ IsSearchAnswer start least s rounds most_tours plan cost bound tree turns (Moves
 
 -- What a snapshot's solution answers: it starts with the least lone costs.
 abbrev pub IsSolveAnswer : Snapshot → (rounds most_tours : ℕ) → List (List Stop) → (cost bound : ℕ) → List Twig → List Turn → StopReason → Type 0
-IsSolveAnswer s rounds most_tours plan cost bound tree turns why = IsFound (start_prices s) (pos (floor_of_bound s)) s rounds most_tours plan cost bound tree turns why
+IsSolveAnswer s rounds most_tours plan cost bound tree turns why =
+    IsFound (start_prices s) (pos (floor_of_bound s)) s rounds most_tours plan cost bound tree turns why
 
 -- And one that may be told to stop.
 abbrev pub IsSnapshotAnswer : Snapshot → (rounds most_tours : ℕ) → List (List Stop) → (cost bound : ℕ) → List Twig → List Turn → StopReason → Type 0

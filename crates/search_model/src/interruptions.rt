@@ -34,7 +34,8 @@ impl Interruption {
     /// What work ended with that is never told to stop. It fails only where there is no memory left.
     pub fn unstopped<T: Drop>(ended: Result<T, Interruption>) -> Result<T, AllocError>
         requires { IsOkUnless ended OutOfMemory }
-        ensures { IfOk result (λ done. ended ≡ Ok done) }
+        ensures done { IfOk result (λ done. ended ≡ Ok done) }
+        ensures memory { OnErr result (IsErrOf ended OutOfMemory) }
     {
         match ended {
             Ok(done) => Ok(done),

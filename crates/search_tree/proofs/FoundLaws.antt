@@ -30,7 +30,8 @@ use Rattle.search_model.specs.Prices.{price_at, IsWorth}
 use Rattle.search_model.specs.Certificates.{TreePlace, Placed, places_after, placed_from, is_filled, IsSound, Proves, root_place, worth_in, sum_needed}
 use Rattle.search_model.specs.Certificates.{IsSoundLeaf}
 use Rattle.search_model.specs.Solving.{HasPartialTours, EndsThere, IsAtEnd, IsEndOf, IsOutOfRounds, IsOutOfMoves, least_bound, lesser_bound, bound_of_leaf}
-use Rattle.search_model.specs.Solving.{IsEnding, IsFound, IsReason, HasChoice, AreRootTurns, FollowTurn, IsRootTurn, IsPricing, IsTourOfTurns, is_split, no_turn}
+use Rattle.search_model.specs.Solving.{IsEnding, IsFound, IsReason, HasChoice, AreRootTurns, FollowTurn, IsRootTurn, IsPricing, IsTourOfTurns, is_split}
+use Rattle.search_model.specs.Solving.{no_turn}
 use Rattle.search_model.specs.Solving.{turn_of_car, sum_of_turn, prices_after}
 use Rattle.search_model.specs.Verdicts.{rounds_enough, tours_enough}
 use Rattle.call_state.proofs.PossibleLemmas.{most_cars-le}

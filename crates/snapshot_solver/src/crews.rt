@@ -31,8 +31,8 @@ pub trait SearchCrew {
             length answers.items ≡ length round.now.tasks.now * round.now.cars) }
         ensures right { IfOk result (λ answers.
             (k : ℕ) (answer : Option TurnOf) → slice_get answers.items k ≡ Some answer
-            → IfSome answer (IsAnswerAt round.now.pricer.now.snapshot.now round.now.most_tours
-            round.now.tasks.now round.now.cars (slice_index round.now.order.now k))) }
+            → IfSome answer (IsAnswerAt round.now.pricer.now.snapshot.now
+            round.now.limits.most_tours round.now.tasks.now round.now.cars (slice_index round.now.order.now k))) }
         ensures done { G.never_stops gate.now → IfOk result (λ answers. All IsSome answers.items) }
         ensures desks { All (Owns round.now.pricer.now) desks.new };
 }
@@ -49,8 +49,8 @@ impl SearchCrew for Alone {
     }
 }
 
-/// Makes all pricings of a round, one after another. A function of its own, since the method knows the jobs by
-/// a pricer whose lifetime they do not show.
+/// Makes all pricings of a round, one after another. A function of its own, since the method knows the jobs
+/// by a pricer whose lifetime they do not show.
 fn price_alone<P: Pricer, G: Gate>(
     alloc: Global,
     round: &Round<P>,
@@ -62,8 +62,8 @@ fn price_alone<P: Pricer, G: Gate>(
         length answers.items ≡ length round.now.tasks.now * round.now.cars) }
     ensures right { IfOk result (λ answers.
         (k : ℕ) (answer : Option TurnOf) → slice_get answers.items k ≡ Some answer
-        → IfSome answer (IsAnswerAt (P.snapshot round.now.pricer.now) round.now.most_tours
-        round.now.tasks.now round.now.cars (slice_index round.now.order.now k))) }
+        → IfSome answer (IsAnswerAt (P.snapshot round.now.pricer.now)
+        round.now.limits.most_tours round.now.tasks.now round.now.cars (slice_index round.now.order.now k))) }
     ensures done { G.never_stops gate.now → IfOk result (λ answers. All IsSome answers.items) }
     ensures desks { All (P.owns round.now.pricer.now) desks.new }
 {

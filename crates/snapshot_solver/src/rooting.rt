@@ -1,6 +1,6 @@
 //! What turns at the root of a snapshot tell.
 
-ghost use Rattle.std.specs.Prelude.{◌≤◌, ◌^◌, IfOk};
+ghost use Rattle.std.specs.Prelude.{◌≤◌, IfOk};
 ghost use Rattle.snapshot_solver.specs.Roots.{IsRootSolution};
 
 use crate::crews::ByCrew;
@@ -10,22 +10,21 @@ use call_state::Snapshot;
 use first_plan::{DEFAULT_ROUNDS, first};
 use pricing_search::Searcher;
 use root_prices::{MOST_ROUNDS, RootAnswer, root_best};
-use search_model::Interruption;
+use search_model::{Interruption, Limits};
 use std::alloc::{AllocError, Global};
 use work_fan::{Alone, Runtime, Workers};
 
-/// Makes turns at the root of the snapshot, 1 to 31 rounds of them, from the prices and the plan with which
-/// `solve` starts, and answers the best prices of them, the cheapest plan in halves of their tours, and
-/// whether the two meet. The calling thread alone makes them. It fails only where there is no memory left.
+/// Makes turns at the root of the snapshot, as many as the limits have rounds, from the prices and the plan
+/// with which `solve` starts, and answers the best prices of them, the cheapest plan in halves of their
+/// tours, and whether the two meet. The calling thread alone makes them. It fails only where there is no
+/// memory left.
 pub fn solve_root(
     alloc: Global,
     snapshot: &Snapshot,
-    rounds: u32,
-    most_tours: u64,
+    limits: Limits,
 ) -> Result<RootAnswer, AllocError>
-    requires rounds { (1 ≤ rounds) × (rounds ≤ MOST_ROUNDS) }
-    requires most_tours { (1 ≤ most_tours) × (most_tours ≤ 10 ^ 18) }
-    ensures { IfOk result (IsRootSolution snapshot.now rounds most_tours) }
+    requires { limits.rounds ≤ MOST_ROUNDS }
+    ensures { IfOk result (IsRootSolution snapshot.now limits.rounds limits.most_tours) }
 {
     let start = first(alloc, snapshot, DEFAULT_ROUNDS, &OpenGate)?;
     let sheet = start_sheet(alloc, snapshot)?;
@@ -36,8 +35,6 @@ pub fn solve_root(
         alloc,
         gate: &OpenGate,
     };
-    let answered = root_best(
-        &runtime, snapshot, &searcher, &start, sheet, rounds, most_tours,
-    );
+    let answered = root_best(&runtime, snapshot, &searcher, &start, sheet, limits);
     Interruption::unstopped(answered)
 }

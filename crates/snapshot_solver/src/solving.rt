@@ -20,13 +20,14 @@ use search_model::Limits;
 use std::alloc::AllocError;
 use work_fan::Runtime;
 
-/// Searches for the cheapest plan of the snapshot within the limits and as long as the runtime's gate lets it go
-/// on, from a feasible plan.
+/// Searches for the cheapest plan of the snapshot within the limits and as long as the runtime's gate lets
+/// it go on, from a feasible plan.
 ///
 /// What it answers is a feasible plan with its cost, a bound that no feasible plan's cost is below, and the
-/// tree that proves them, whose prices and worths lie in their ranges. Cost and bound are equal unless a limit
-/// was reached or it was told to stop, and where the limits are enough for the snapshot none is. A search that
-/// was told to stop answers what one of fewer rounds answers. It fails only where there is no memory left.
+/// tree that proves them, whose prices and worths lie in their ranges. Cost and bound are equal unless a
+/// limit was reached or it was told to stop, and where the limits are enough for the snapshot none is.
+/// Where it was told to stop, all holds but the reason that holds of a search which may do some number of
+/// rounds, at most the limit. It fails only where there is no memory left.
 pub fn solve_from<C: SearchCrew, G: Gate>(
     runtime: &Runtime<C, G>,
     snapshot: &Snapshot,
@@ -59,8 +60,8 @@ pub fn solve_from<C: SearchCrew, G: Gate>(
 
 /// Searches for the cheapest plan of the snapshot within the limits, from a plan of its own.
 ///
-/// It answers what `solve_from` does under a gate that never stops: the runtime's gate is told how far the search
-/// has come, and is not asked.
+/// It answers what `solve_from` does under a gate that never stops: the runtime's gate is told how far the
+/// search has come, and is not asked.
 pub fn solve<C: SearchCrew, G: Gate>(
     runtime: &Runtime<C, G>,
     snapshot: &Snapshot,

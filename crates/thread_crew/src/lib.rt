@@ -61,8 +61,8 @@ fn price_in_threads<P: Pricer, R: Threads>(
         length answers.items ≡ length round.now.tasks.now * round.now.cars) }
     ensures right { IfOk result (λ answers.
         (k : ℕ) (answer : Option TurnOf) → slice_get answers.items k ≡ Some answer
-        → IfSome answer (IsAnswerAt (P.snapshot round.now.pricer.now) round.now.most_tours
-        round.now.tasks.now round.now.cars (slice_index round.now.order.now k))) }
+        → IfSome answer (IsAnswerAt (P.snapshot round.now.pricer.now)
+        round.now.limits.most_tours round.now.tasks.now round.now.cars (slice_index round.now.order.now k))) }
     ensures done { IfOk result (λ answers. All IsSome answers.items) }
     ensures desks { All (P.owns round.now.pricer.now) desks.new }
 {

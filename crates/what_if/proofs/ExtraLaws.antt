@@ -139,7 +139,8 @@ extra-within s rounds most_tours before c (Exact exact) extra takes of is =
 extra-within s rounds most_tours before c (Between low high) extra takes of is = of.1.holds extra is
 
 -- a car of which something is said can take the call, and the other way round
-pub takes-has : (s : Snapshot) (rounds most_tours : ℕ) (before : Searched) (c : ℕ) (x : Extra) → IsExtraOf s rounds most_tours before c x → takes_asked s c ≡ has_extra x
+pub takes-has : (s : Snapshot) (rounds most_tours : ℕ) (before : Searched) (c : ℕ) (x : Extra) → IsExtraOf s rounds most_tours before c x
+    → takes_asked s c ≡ has_extra x
 takes-has s rounds most_tours before c NoExtra of = of
 takes-has s rounds most_tours before c (Exact extra) of = of.0
 takes-has s rounds most_tours before c (Between low high) of = of.0

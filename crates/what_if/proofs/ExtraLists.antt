@@ -12,7 +12,8 @@ use Rattle.what_if.specs.Ends.{AreExtrasBelow, IsRanged}
 use Rattle.what_if.proofs.ExtraLaws.{enough-settled, takes-has}
 
 pub extras-none : (s : Snapshot) (rounds most_tours : ℕ) (before : Searched) → AreExtrasBelow s rounds most_tours before 0 []
-extras-none s rounds most_tours before = record { count = refl; each = λ c below. absurd (omega (arith, below)); ranged = λ c below. absurd (omega (arith, below)) }
+extras-none s rounds most_tours before =
+    record { count = refl; each = λ c below. absurd (omega (arith, below)); ranged = λ c below. absurd (omega (arith, below)) }
 
 -- what holds of each car so far, and of the next one
 one-more : (P : ℕ → Extra → Type 0) (n : ℕ) (extras : List Extra) (x : Extra) → length extras ≡ n → ((c : ℕ) → c < n → P c (extra_at extras c)) → P n x
@@ -34,7 +35,8 @@ extras-more s rounds most_tours before n extras x are of ranged =
       ranged = one-more (λ c y. IsRanged y) n extras x are.count are.ranged ranged;
     }
 
-pub all-ranged : (s : Snapshot) (rounds most_tours : ℕ) (before : Searched) (n : ℕ) (extras : List Extra) → AreExtrasBelow s rounds most_tours before n extras → (c : ℕ)
+pub all-ranged : (s : Snapshot) (rounds most_tours : ℕ) (before : Searched) (n : ℕ) (extras : List Extra) → AreExtrasBelow s rounds most_tours before n extras
+    → (c : ℕ)
     → IsRanged (extra_at extras c)
 all-ranged s rounds most_tours before n extras are c =
     let count = are.count in

@@ -41,7 +41,10 @@ cheapest-is s rounds most_tours extras r a e =
     let is_car = e.is_car in
     let car : e.cheapest < car_count s = omega (arith, count, is_car) in
     record {
-      takes = record { is_car = car; possible = takes-has s rounds most_tours a.before e.cheapest (extra_at extras e.cheapest) (a.each e.cheapest car) ∙ e.has };
+      takes = record {
+        is_car = car;
+        possible = takes-has s rounds most_tours a.before e.cheapest (extra_at extras e.cheapest) (a.each e.cheapest car) ∙ e.has;
+      };
       least = λ other takes.
           (let below = takes.is_car in
           e.least other (omega (arith, below, count))
@@ -49,7 +52,8 @@ cheapest-is s rounds most_tours extras r a e =
     }
 
 -- of a settled list, what is said of a car is its extra cost
-settled-at : (s : Snapshot) (rounds most_tours : ℕ) (extras : List Extra) → AreExtras s rounds most_tours extras → AreSettled extras → (c : ℕ) → CanTakeAsked s c
+settled-at : (s : Snapshot) (rounds most_tours : ℕ) (extras : List Extra) → AreExtras s rounds most_tours extras → AreSettled extras → (c : ℕ)
+    → CanTakeAsked s c
     → IsExtraCost s c (low_of (extra_at extras c)) × (low_of (extra_at extras c) ≡ high_of (extra_at extras c))
 settled-at s rounds most_tours extras a all c takes =
     let count = a.count in
@@ -57,7 +61,8 @@ settled-at s rounds most_tours extras a all c takes =
     settled-is s rounds most_tours a.before c (extra_at extras c) takes.possible (all c (omega (arith, count, below))) (a.each c takes.is_car)
 
 -- a regret is at least the low end
-low-end : (s : Snapshot) (rounds most_tours : ℕ) (extras : List Extra) (r : Regret) → AreExtras s rounds most_tours extras → IsNearest s r.car → HasEnds extras r
+low-end : (s : Snapshot) (rounds most_tours : ℕ) (extras : List Extra) (r : Regret) → AreExtras s rounds most_tours extras → IsNearest s r.car
+    → HasEnds extras r
     → (regret : ℤ) → IsRegretOf s r.car regret → r.low ≤ℤ regret
 low-end s rounds most_tours extras r a nearest e regret h =
     let takes = nearest.takes in
@@ -72,7 +77,8 @@ low-end s rounds most_tours extras r a nearest e regret h =
       | inr some ↦ (let low = e.unsettled some in let least = h.least.least r.car h.extra takes h.extra_cost in omega (arith, ints, low, least, is))
     ]
 
-pub regret-is : (s : Snapshot) (rounds most_tours : ℕ) (extras : List Extra) (r : Regret) → AreExtras s rounds most_tours extras → IsNearest s r.car → HasEnds extras r
+pub regret-is : (s : Snapshot) (rounds most_tours : ℕ) (extras : List Extra) (r : Regret) → AreExtras s rounds most_tours extras → IsNearest s r.car
+    → HasEnds extras r
     → IsRegret s extras r
 regret-is s rounds most_tours extras r a nearest e =
     let cheapest = cheapest-is s rounds most_tours extras r a e in

@@ -16,13 +16,15 @@ use work_fan::{Alone, Runtime, Workers};
 /// More questions than any search of these tests asks.
 const ENOUGH: u32 = 1_000_000;
 
-/// A gate that lets the work go on so many times.
+/// A gate that answers yes to its first questions, and no from then on.
 #[derive(Drop)]
 struct Until {
+    /// How many questions it still answers by yes.
     left: AtomicU32,
 }
 
 impl Until {
+    /// A gate that answers this many questions by yes.
     fn new(asked: u32) -> Until {
         Until {
             left: AtomicU32::new(asked),
@@ -47,7 +49,7 @@ impl Gate for Until {
     }
 }
 
-/// What a search answers that may go on this many times, by the calling thread alone.
+/// What a search under the gate answers, by the calling thread alone.
 fn found_within(
     alloc: Global,
     snapshot: &Snapshot,
@@ -77,8 +79,8 @@ fn is_true(snapshot: &Snapshot, found: &Found, least: u64) -> bool {
         && least <= found.stated.cost
 }
 
-/// How many turns the root had, of a search that may go on so many times; None where its answer is not true, or
-/// where it was told to stop and says that it was not, or the other way round.
+/// How many turns the root had in a search whose first `asked` questions were answered by yes; None where
+/// its answer is not true, or where it was told to stop and says that it was not, or the other way round.
 fn turns_within(alloc: Global, snapshot: &Snapshot, asked: u32, least: u64) -> Option<usize> {
     let limits = Limits::new(2000, 75_000)?;
     let gate = Until::new(asked);
@@ -98,7 +100,8 @@ fn asked_by_start(alloc: Global, snapshot: &Snapshot, rounds: u32) -> Option<u32
     is_feasible(snapshot, &plan).then_some(gate.said_yes(ENOUGH))
 }
 
-/// Whether the start plan asks before each of its rounds, of which there are 100 a call and no more than is said.
+/// Whether the start plan asks before each of its rounds, of which there are 100 a call and no more than is
+/// said.
 fn start_asks(alloc: Global, snapshot: &Snapshot) -> bool {
     asked_by_start(alloc, snapshot, 1000) == Some(400)
         && asked_by_start(alloc, snapshot, 37) == Some(37)
@@ -123,8 +126,8 @@ fn is_told_at_each_job(alloc: Global, snapshot: &Snapshot, least: u64) -> bool {
         && turns_within(alloc, snapshot, 407, least) == Some(1)
 }
 
-/// Whether each search that may go on so many times, in steps of three, answers the truth, and never fewer turns
-/// than one that may go on less often.
+/// Whether searches tell the truth whose first 390, 393, 396 .. questions were answered by yes, and none
+/// has fewer turns than one before it.
 fn are_true(alloc: Global, snapshot: &Snapshot, least: u64) -> bool {
     let mut most = 0;
     for step in 0..200 {

@@ -18,7 +18,7 @@ pub returns : goal.returns
 returns g c start turned is_open =
     let s = g.P.Pricer.snapshot c.args.pricer.now in
     let calls : c.len-calls.result ≡ call_count s = (let all = root_calls s c.args.limits.most_tours c.args.root c.requires.root in search (rules, all)) in
-    let turns : c.len.result ≡ length c.args.root.turns.items = search rules in
+    let turns : c.len.result ≡ length c.args.root.series.turns.items = search rules in
     let new = c.split_where_due.new.tree.branches in
     let same : c.note_turns.new.tree.branches ≡ c.args.root.tree.branches = c.note_turns.ensures in
     let grown = subst (λ (old : List Branch). IsSplit 0 old new ⊎ IsKeptRoot c.len-calls.result c.len.result old new) same c.in_ok-split_where_due.ensures in

@@ -11,7 +11,7 @@ answer-requires g c =
     let root = c.args.root in
     let start = c.requires.turned.0 in
     let turned = c.requires.turned.2 in
-    bound_natural s c.args.limits.most_tours start root.turns.items root.tree.branches root.best turned.stands.best
+    bound_natural s c.args.limits.most_tours start root.series.turns.items root.tree.branches root.best turned.stands.best
     (turns_above s c.args.limits.rounds c.args.limits.most_tours start root (so_far s c.args.limits.rounds c.args.limits.most_tours start root turned)
     c.requires.accepted.building.cars_low) c.requires.turned.1
 
@@ -19,13 +19,13 @@ pub returns-clause-found : goal.returns-clause-found
 returns-clause-found g c =
     let s = g.P.Pricer.snapshot c.args.pricer.now in
     let root = c.args.root in
-    if_ok c.answer.result (IsAnswerOf root.tree.branches root.best root.turns.items Solved) _
+    if_ok c.answer.result (IsAnswerOf root.tree.branches root.best root.series.turns.items Solved) _
     (λ f is start turned. answer_found start.prices
-    (bound_of_sheet start) s c.args.limits.rounds c.args.limits.most_tours root.tree.branches root.best root.turns.items Solved f is
+    (bound_of_sheet start) s c.args.limits.rounds c.args.limits.most_tours root.tree.branches root.best root.series.turns.items Solved f is
     (found_solved s c.args.limits.rounds c.args.limits.most_tours start root f.stated.bound c.requires.accepted.building.cars_low turned c.requires.closed
     is.bound)) c.answer.ensures.answer
 
 pub returns-clause-why : goal.returns-clause-why
 returns-clause-why g c =
     let root = c.args.root in
-    if_ok c.answer.result (IsAnswerOf root.tree.branches root.best root.turns.items Solved) _ (λ f is. is.why_is) c.answer.ensures.answer
+    if_ok c.answer.result (IsAnswerOf root.tree.branches root.best root.series.turns.items Solved) _ (λ f is. is.why_is) c.answer.ensures.answer

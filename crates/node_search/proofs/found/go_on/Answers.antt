@@ -1,7 +1,6 @@
 use Rattle.std.specs.Prelude.{Bool}
-use Rattle.std.proofs.Common.{◌≡◌, ℕ, refl, subst, true, false}
+use Rattle.std.proofs.Common.{◌≡◌, refl, true, false}
 use Rattle.node_search.specs.Found.{IsBegun}
-use Rattle.node_search.specs.Searches.{HasGoneOn, HasRun, IsSearching}
 use Rattle.pricing_rounds.proofs.Interruptions.{flag_false, on_ok}
 use Rattle.node_search.proofs.SearchEnd.{begun_after, ended_of}
 use Rattle.node_search.proofs.found.go_on.Goals as goal
@@ -12,8 +11,8 @@ returns-clause-ended g c untold start turned =
     let begun = c.in_ok-search.field-0 in
     let ok = c.in_ok-is_told.ensures.done untold in
     let new = c.run-ended.new.self in
-    let searching = subst (λ (n : ℕ). IsSearching s n new) c.most_tours.ensures.value (on_ok c.run-ended.result _ ok c.run-ended.ensures.searching) in
-    let run = subst (λ (n : ℕ). HasRun s n begun.search new) c.rounds.ensures.value (on_ok c.run-ended.result _ ok c.run-ended.ensures.run) in
+    let searching = on_ok c.run-ended.result _ ok c.run-ended.ensures.searching in
+    let run = on_ok c.run-ended.result _ ok c.run-ended.ensures.run in
     ended_of s c.args.limits.rounds c.args.limits.most_tours start begun.turns.items begun.search new
     (c.in_ok-search.ensures start turned c.requires.open_yet) searching run
 
@@ -29,8 +28,7 @@ returns-clause-begun g c start turned = by_told c.in_ok-is_told.is_told refl
         let new = c.run-ended.new.self in
         let stopped = c.run-ended.ensures.told (c.in_ok-is_told.ensures.told is) in
         begun_after s c.args.limits.rounds c.args.limits.most_tours start begun.turns.items begun.search new
-        (c.in_ok-search.ensures start turned c.requires.open_yet) (subst (λ (n : ℕ). IsSearching s n new) c.most_tours.ensures.value stopped.0)
-        (subst (λ (n : ℕ). HasGoneOn s n begun.search new) c.rounds.ensures.value stopped.1)
+        (c.in_ok-search.ensures start turned c.requires.open_yet) stopped.0 stopped.1
     by_told false is = (returns-clause-ended g c is start turned).begun
 
 pub returns-clause-goes_on : goal.returns-clause-goes_on

@@ -1,4 +1,3 @@
-use Rattle.std.proofs.Common.{ℕ, List}
 use Rattle.search_model.specs.declared.StopReason.TheVariants.{Told}
 use Rattle.search_model.specs.Solving.{IsToldAnswer}
 use Rattle.search_tree.specs.Standing.{bound_of_sheet}

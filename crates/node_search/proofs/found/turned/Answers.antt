@@ -1,9 +1,8 @@
 use Rattle.std.specs.Prelude.{Bool}
-use Rattle.std.proofs.Common.{◌≡◌, ℕ, refl, sym, subst, true, false}
+use Rattle.std.proofs.Common.{◌≡◌, refl, sym, subst, true, false}
 use Rattle.elevator_model.specs.Snapshot.{Snapshot, IsAccepted}
 use Rattle.search_model.specs.Nodes.{root_of}
 use Rattle.search_tree.specs.Standing.{IsSheetIn}
-use Rattle.node_search.specs.Found.{HasDueTurns, IsTurnedSoFar}
 use Rattle.node_search.specs.Roots.{IsNewRoot, IsTurning}
 use Rattle.pricing_rounds.proofs.Interruptions.{flag_false, on_ok}
 use Rattle.node_search.proofs.RootStart.{new_root, so_far_is}
@@ -15,7 +14,7 @@ turn_as_due-ended-requires-clause-root g c κs within =
     let same = sym c.requires.snapshot in
     let sheet = subst (λ (x : Snapshot). IsSheetIn x (root_of x) c.args.sheet) same c.requires.sheet in
     let is = subst (λ (x : Snapshot). IsNewRoot x c.args.sheet c.in_ok-root.root) same c.in_ok-root.ensures in
-    new_root s c.most_tours.result c.args.sheet c.in_ok-root.root is sheet
+    new_root s c.args.limits.most_tours c.args.sheet c.in_ok-root.root is sheet
 
 pub returns-clause-so_far : goal.returns-clause-so_far
 returns-clause-so_far g c =
@@ -25,12 +24,10 @@ returns-clause-so_far g c =
     let new = subst (λ (x : Snapshot). IsNewRoot x c.args.sheet c.in_ok-root.root) same c.in_ok-root.ensures in
     let root = c.turn_as_due-ended.new.self in
     let turning = by_told c.in_ok-is_told.is_told refl in
-    let far = so_far_is s c.most_tours.result c.args.sheet c.in_ok-root.root new sheet c.rounds.result root turning.stands turning.turned turning.few in
-    subst (λ (n : ℕ). IsTurnedSoFar s c.args.limits.rounds n c.args.sheet root) c.most_tours.ensures.value
-    (subst (λ (n : ℕ). IsTurnedSoFar s n c.most_tours.result c.args.sheet root) c.rounds.ensures.value far)
+    so_far_is s c.args.limits.most_tours c.args.sheet c.in_ok-root.root new sheet c.args.limits.rounds root turning.stands turning.turned turning.few
   where
     by_told : (told : Bool) → c.in_ok-is_told.is_told ≡ told
-        → IsTurning (g.P.Pricer.snapshot c.args.pricer.now) c.rounds.result c.most_tours.result c.in_ok-root.root c.turn_as_due-ended.new.self
+        → IsTurning (g.P.Pricer.snapshot c.args.pricer.now) c.args.limits.rounds c.args.limits.most_tours c.in_ok-root.root c.turn_as_due-ended.new.self
     by_told true is = c.turn_as_due-ended.ensures.told (c.in_ok-is_told.ensures.told is)
     by_told false is =
         let ok = c.in_ok-is_told.ensures.done is in
@@ -43,10 +40,7 @@ returns-clause-so_far g c =
         }
 
 pub returns-clause-due : goal.returns-clause-due
-returns-clause-due g c untold =
-    let s = g.P.Pricer.snapshot c.args.pricer.now in
-    let due = on_ok c.turn_as_due-ended.result _ (c.in_ok-is_told.ensures.done untold) c.turn_as_due-ended.ensures.due in
-    subst (λ (n : ℕ). HasDueTurns s n c.turn_as_due-ended.new.self) c.rounds.ensures.value due
+returns-clause-due g c untold = on_ok c.turn_as_due-ended.result _ (c.in_ok-is_told.ensures.done untold) c.turn_as_due-ended.ensures.due
 
 pub returns-clause-goes_on : goal.returns-clause-goes_on
 returns-clause-goes_on g c going =
@@ -63,12 +57,6 @@ turn_as_due-ended-requires-clause-accepted g c κs within = subst IsAccepted (sy
 
 pub turn_as_due-ended-requires-clause-desks : goal.turn_as_due-ended-requires-clause-desks
 turn_as_due-ended-requires-clause-desks g c κs within = c.requires.desks
-
-pub turn_as_due-ended-requires-clause-most_tours : goal.turn_as_due-ended-requires-clause-most_tours
-turn_as_due-ended-requires-clause-most_tours g c κs within = c.most_tours.ensures.range
-
-pub turn_as_due-ended-requires-clause-rounds : goal.turn_as_due-ended-requires-clause-rounds
-turn_as_due-ended-requires-clause-rounds g c κs within = c.rounds.ensures.range.0
 
 pub turn_as_due-ended-requires-clause-turns : goal.turn_as_due-ended-requires-clause-turns
 turn_as_due-ended-requires-clause-turns g c κs within = c.in_ok-root.ensures.turns

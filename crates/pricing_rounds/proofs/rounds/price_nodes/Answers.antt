@@ -27,8 +27,6 @@ invariant_of-round g c =
         each = λ i task at.
             subst (IsTaskOf (g.P.Pricer.snapshot c.args.pricer.now)) (get_or_from_slice_get c.args.tasks.now i task task at)
             (c.requires.tasks i task (slice_get_within c.args.tasks.now i task at));
-        low = c.requires.limit.0;
-        high = c.requires.limit.1;
         drawn = order_long count order is;
         below = order_below count order is;
       };
@@ -48,8 +46,8 @@ returns-clause-answers g c =
     let kept : c.deref-3.result.now ≡ order = c.deref-3.ensures.value ∙ sym c.deref.ensures.value in
     let turns = c.in_ok-turns.turns in
     let From : List ℕ → Vec TurnOf Global → Type 0 = λ o v. (p : ℕ) (a : TurnOf) → slice_get v.items p ≡ Some a → Contains (zip o drawn) (p, a) in
-    answers_of s c.args.most_tours tasks cars turns.items c.in_ok-turns.ensures.count
-    (λ p a at. answer_at s c.args.most_tours tasks cars order drawn same
+    answers_of s c.args.limits.most_tours tasks cars turns.items c.in_ok-turns.ensures.count
+    (λ p a at. answer_at s c.args.limits.most_tours tasks cars order drawn same
     (λ n b there. c.in_ok-answers.ensures.right n (Some b) (c.in_ok-drawn.ensures.from n b there)) p a
     (subst (λ (o : List ℕ). From o turns) kept c.in_ok-turns.ensures.from p a at))
 

@@ -2,7 +2,7 @@ use Rattle.std.proofs.Common.{◌≡◌, ◌∙◌, sym, ap, subst, arith, rules
 use Rattle.std.specs.Prelude.{ℤ, nat_eq}
 use Rattle.std.specs.Int.{int_max}
 use Rattle.std.proofs.lemmas.Int.{to_z-of_z}
-use Rattle.std.proofs.lemmas.Bool.{eqb-true, eqb-false}
+use Rattle.std.proofs.lemmas.Bool.{eqb-true, eq-eqb}
 use mir.Val.{to_z, of_z}
 use mir.Syntax.{w128}
 use Rattle.partial_tours.specs.PartialTour.{PartialTour}
@@ -42,8 +42,8 @@ visit-requires-clause-stands g c =
     subst (λ (q : PartialTour). IsOpen (g.W.TourBound.stands c.args.walk_bound.now c.start-sums.result) c.args.demand.now q) (sym c.dive.ensures.prefix)
     (open_first (g.W.TourBound.stands c.args.walk_bound.now c.start-sums.result) c.args.demand.now c.args.prefix.now c.requires.empty c.start-sums.ensures)
 
-pub visit-requires-clause-limit : goal.visit-requires-clause-limit
-visit-requires-clause-limit g c = let none = c.dive.ensures.begins.visits in omega (arith, none)
+pub visit-requires-clause-most_tours : goal.visit-requires-clause-most_tours
+visit-requires-clause-most_tours g c = let none = c.dive.ensures.begins.visits in omega (arith, none)
 
 pub visit-requires-clause-found : goal.visit-requires-clause-found
 visit-requires-clause-found g c =
@@ -62,10 +62,11 @@ returns-clause-searched g c =
     let worth_is = stored ∙ c.max.ensures.value ∙ ap (λ (z : ℤ). int_max z (to_z w128 (of_z w128 c.args.least))) (told ∙ c.worth.ensures)
     ∙ ap (λ (z : ℤ). int_max (open_worth c.visit.new.progress) z) least in
     let begins = subst (λ (b : Aim). Begins (aim_at p c.args.demand.now b.price) c.dive.new.progress) c.requires.same c.dive.ensures.begins in
-    let walked = subst (λ (q : PartialTour). Visited q c.args.demand.now a.price c.args.limit c.dive.new.progress c.visit.new.progress) c.dive.ensures.prefix
+    let walked = subst (λ (q : PartialTour). Visited q c.args.demand.now a.price c.args.most_tours c.dive.new.progress c.visit.new.progress)
+    c.dive.ensures.prefix
     c.visit.ensures.visited in
     let walking = walking_first a c.args.demand.now p c.requires.accepted c.requires.car c.requires.empty c.requires.aim c.requires.demands in
-    searched a c.args.demand.now p c.args.least c.args.limit c.dive.new.progress c.visit.new.progress
-    (record { worth = worth; visits = c.visits-visits.result; spent = nat_eq c.visits-visits.result c.args.limit }) walking c.requires.least
-    c.requires.empty begins walked c.requires.limit c.requires.size worth_is c.visits-visits.ensures (λ e. eqb-true c.visits-visits.result c.args.limit e)
-    (λ e is. eqb-false c.visits-visits.result c.args.limit e is)
+    searched a c.args.demand.now p c.args.least c.args.most_tours c.dive.new.progress c.visit.new.progress
+    (record { worth = worth; visits = c.visits-visits.result; spent = nat_eq c.visits-visits.result c.args.most_tours }) walking c.requires.least
+    c.requires.empty begins walked c.requires.most_tours c.requires.size worth_is c.visits-visits.ensures
+    (λ e. eqb-true c.visits-visits.result c.args.most_tours e, λ is. eq-eqb c.visits-visits.result c.args.most_tours is)

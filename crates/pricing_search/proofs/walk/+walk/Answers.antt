@@ -27,19 +27,19 @@ visit-returns-then-is_reached-clause-visited g t c =
     let value = to_z w128 (of_z w128 c.value-least.result) in
     let same : value ≡ c.value-least.result = search rules in
     reached_best a c.args.guide.now.demand.now c.args.prefix.now
-    (g.B.TourBound.stands c.args.guide.now.bound.now c.args.sums.now) c.args.limit c.args.progress.now value c.requires.walking c.requires.stands
-    c.requires.limit c.requires.found (λ x there. subst (λ (z : ℤ). UndercutsNone a z x) (sym same)
+    (g.B.TourBound.stands c.args.guide.now.bound.now c.args.sums.now) c.args.most_tours c.args.progress.now value c.requires.walking c.requires.stands
+    c.requires.most_tours c.requires.found (λ x there. subst (λ (z : ℤ). UndercutsNone a z x) (sym same)
     (g.met.B.TourBound.lower c.args.guide.now.bound.now c.value-least.result x (c.value-least.ensures.value x there)))
     (sym c.is_reached.ensures ∙ c.if-is_reached.true)
 
-pub visit-returns-then-progress-limit-clause-visited : goal.visit-returns-then-progress-limit-clause-visited
-visit-returns-then-progress-limit-clause-visited g t c =
+pub visit-returns-then-progress-most_tours-clause-visited : goal.visit-returns-then-progress-most_tours-clause-visited
+visit-returns-then-progress-most_tours-clause-visited g t c =
     let a = g.B.TourBound.aim c.args.guide.now.bound.now in
     let value = to_z w128 (of_z w128 c.value-least.result) in
     let same : value ≡ c.value-least.result = search rules in
     left_out a c.args.guide.now.demand.now c.args.prefix.now
-    (g.B.TourBound.stands c.args.guide.now.bound.now c.args.sums.now) c.args.limit c.args.progress.now c.leave_out.new.self value c.requires.walking
-    c.requires.stands c.requires.limit c.if-progress-limit.true c.requires.found
+    (g.B.TourBound.stands c.args.guide.now.bound.now c.args.sums.now) c.args.most_tours c.args.progress.now c.leave_out.new.self value c.requires.walking
+    c.requires.stands c.requires.most_tours c.if-progress-most_tours.true c.requires.found
     (λ x there. subst (λ (z : ℤ). UndercutsNone a z x) (sym same)
     (g.met.B.TourBound.lower c.args.guide.now.bound.now c.value-least.result x (c.value-least.ensures.value x there))) c.leave_out.ensures.visits
     c.leave_out.ensures.best c.leave_out.ensures.found c.leave_out.ensures.untried
@@ -55,8 +55,8 @@ visit-returns-then-point-clause-visited g t c =
     let value = to_z w128 (of_z w128 c.tour_value.result) in
     let same : value ≡ c.tour_value.result = search rules in
     ended_visited (g.B.TourBound.aim c.args.guide.now.bound.now) c.args.guide.now.demand.now c.args.prefix.now
-    (g.B.TourBound.stands c.args.guide.now.bound.now c.args.sums.now) c.args.limit c.args.progress.now c.count.new.self c.note.new.self value
-    c.requires.walking o (sym (c.point.ensures o.at o.leads).ended ∙ c.if-point.true) c.if-progress-limit.false c.requires.found
+    (g.B.TourBound.stands c.args.guide.now.bound.now c.args.sums.now) c.args.most_tours c.args.progress.now c.count.new.self c.note.new.self value
+    c.requires.walking o (sym (c.point.ensures o.at o.leads).ended ∙ c.if-point.true) c.if-progress-most_tours.false c.requires.found
     (record { visits = c.count.ensures.visits; best = c.count.ensures.best; untried = c.count.ensures.untried; found = c.count.ensures.found })
     (λ x there. same ∙ c.tour_value.ensures.value x there) c.note.ensures.visits c.note.ensures.untried c.note.ensures.best c.note.ensures.found
 
@@ -74,7 +74,7 @@ visit-loop-next-init g t c =
     let price = (g.B.TourBound.aim c.args.guide.now.bound.now).price in
     let counted : IsCounted c.args.progress.now c.count.new.self =
     record { visits = c.count.ensures.visits; best = c.count.ensures.best; untried = c.count.ensures.untried; found = c.count.ensures.found } in
-    let lt = c.if-progress-limit.false in
+    let lt = c.if-progress-most_tours.false in
     let up = c.count.ensures.visits in
     let best = to_z w128 (of_z w128 c.count.new.self.best) in
     let whole : best ≡ c.count.new.self.best = search rules in
@@ -94,7 +94,7 @@ visit-loop-next-init g t c =
     record {
       same = refl;
       visits =
-          visits_first p demand price c.args.limit o.at c.first-next.result c.count.new.self o.leads goes (omega (arith, lt, up))
+          visits_first p demand price c.args.most_tours o.at c.first-next.result c.count.new.self o.leads goes (omega (arith, lt, up))
           (counted_found (aim_at p demand price) c.args.progress.now c.count.new.self counted c.requires.found);
     }
 
@@ -110,7 +110,7 @@ visit-visit_after-requires g t c κs within =
     let same = c.loop-next.invariant.same in
     let choice = c.in-Some.choice in
     let a = g.B.TourBound.aim c.args.guide.now.bound.now in
-    let visits = subst (λ (next : Option Move). Visits p c.args.guide.now.demand.now a.price c.args.limit next c.count.new.self c.loop-next.progress)
+    let visits = subst (λ (next : Option Move). Visits p c.args.guide.now.demand.now a.price c.args.most_tours next c.count.new.self c.loop-next.progress)
     c.in-Some.is c.loop-next.invariant.visits in
     let f = follower p c.args.guide.now.demand.now.allowed o.at choice visits.place o.leads visits.at in
     let next : MayFollow c.args.guide.now.demand.now p choice = record { lawful = f.lawful; may = f.may } in
@@ -181,9 +181,9 @@ visit-loop-next-preserved g t c =
     let choice = c.in-Some.choice in
     let demand = c.args.guide.now.demand.now in
     let price = (g.B.TourBound.aim c.args.guide.now.bound.now).price in
-    let visits = subst (λ (next : Option Move). Visits p demand price c.args.limit next c.count.new.self c.loop-next.progress) c.in-Some.is
+    let visits = subst (λ (next : Option Move). Visits p demand price c.args.most_tours next c.count.new.self c.loop-next.progress) c.in-Some.is
     c.loop-next.invariant.visits in
-    let more = subst (λ (q : PartialTour). Visited (with_move q choice) demand price c.args.limit c.loop-next.progress c.visit_after.new.progress) same
+    let more = subst (λ (q : PartialTour). Visited (with_move q choice) demand price c.args.most_tours c.loop-next.progress c.visit_after.new.progress) same
     c.visit_after.ensures.visited in
     let best = to_z w128 (of_z w128 c.count.new.self.best) in
     let whole : best ≡ c.count.new.self.best = search rules in
@@ -203,7 +203,7 @@ visit-loop-next-preserved g t c =
     record {
       same = c.visit_after.ensures.prefix
           ∙ same;
-      visits = visits_on p demand price c.args.limit o.at choice c.after-next.result c.count.new.self c.loop-next.progress c.visit_after.new.progress
+      visits = visits_on p demand price c.args.most_tours o.at choice c.after-next.result c.count.new.self c.loop-next.progress c.visit_after.new.progress
           o.leads visits more goes;
     }
 
@@ -216,7 +216,7 @@ visit-loop-floor-init g t c =
     let none = none_there c.loop-next.next c.in_default.not-Some in
     let counted : IsCounted c.args.progress.now c.count.new.self =
     record { visits = c.count.ensures.visits; best = c.count.ensures.best; untried = c.count.ensures.untried; found = c.count.ensures.found } in
-    let visits = subst (λ (next : Option Move). Visits p demand price c.args.limit next c.count.new.self c.loop-next.progress) none
+    let visits = subst (λ (next : Option Move). Visits p demand price c.args.most_tours next c.count.new.self c.loop-next.progress) none
     c.loop-next.invariant.visits in
     let best = to_z w128 (of_z w128 c.count.new.self.best) in
     let whole : best ≡ c.count.new.self.best = search rules in
@@ -224,13 +224,14 @@ visit-loop-floor-init g t c =
     (worth_followers (g.B.TourBound.aim c.args.guide.now.bound.now)
     (g.B.TourBound.bounds c.args.guide.now.bound.now) demand p best o.at c.followers_below-followers.result c.requires.walking
     (g.met.B.TourBound.lower c.args.guide.now.bound.now) (c.followers_below-followers.ensures o.at o.leads)) in
-    let begins = stops_begin p demand price c.args.limit o.at c.followers_below-followers.result c.count.new.self c.loop-next.progress o.leads below visits in
+    let begins = stops_begin p demand price c.args.most_tours o.at c.followers_below-followers.result c.count.new.self c.loop-next.progress o.leads below
+    visits in
     record {
       same = c.loop-next.invariant.same;
       before = c.count.new.self;
       counted = counted;
       visits =
-          subst (λ (left : ℕ). VisitsBut p demand price c.args.limit left c.count.new.self c.loop-next.progress) (sym c.leaves-stops.ensures) begins;
+          subst (λ (left : ℕ). VisitsBut p demand price c.args.most_tours left c.count.new.self c.loop-next.progress) (sym c.leaves-stops.ensures) begins;
     }
 
 pub visit-visit_after-requires-in-Some-nearest : goal.visit-visit_after-requires-in-Some-nearest
@@ -292,7 +293,7 @@ visit-loop-floor-preserved g t c =
     let price = (g.B.TourBound.aim c.args.guide.now.bound.now).price in
     let is = c.in-Some-nearest.ensures in
     let more = subst (λ (q : PartialTour).
-    Visited (with_move q (Leave c.in-Some-nearest.floor)) demand price c.args.limit c.loop-floor.progress c.visit_after-in-Some-nearest.new.progress) same
+    Visited (with_move q (Leave c.in-Some-nearest.floor)) demand price c.args.most_tours c.loop-floor.progress c.visit_after-in-Some-nearest.new.progress) same
     c.visit_after-in-Some-nearest.ensures.visited in
     let gone = gone_there c.loop-floor.stops c.without-stops.result c.in-Some-nearest.floor c.without-stops.ensures in
     record {
@@ -301,7 +302,7 @@ visit-loop-floor-preserved g t c =
       before = held.before;
       counted = held.counted;
       visits =
-          stops_on p demand price c.args.limit c.loop-floor.stops c.without-stops.result c.in-Some-nearest.floor held.before c.loop-floor.progress
+          stops_on p demand price c.args.most_tours c.loop-floor.stops c.without-stops.result c.in-Some-nearest.floor held.before c.loop-floor.progress
           c.visit_after-in-Some-nearest.new.progress held.visits is.0 gone c.without-stops.ensures more;
     }
 
@@ -311,10 +312,10 @@ visit-returns-clause-visited g t c =
     let o = c.requires.stands in
     let a = g.B.TourBound.aim c.args.guide.now.bound.now in
     let held = c.loop-floor.invariant in
-    let all = stops_end p c.args.guide.now.demand.now a.price c.args.limit c.loop-floor.stops held.before c.loop-floor.progress held.visits
+    let all = stops_end p c.args.guide.now.demand.now a.price c.args.most_tours c.loop-floor.stops held.before c.loop-floor.progress held.visits
     c.in_default-nearest.ensures in
     all_visited a c.args.guide.now.demand.now p
-    (g.B.TourBound.stands c.args.guide.now.bound.now c.args.sums.now) c.args.limit c.args.progress.now held.before c.loop-floor.progress c.requires.walking
+    (g.B.TourBound.stands c.args.guide.now.bound.now c.args.sums.now) c.args.most_tours c.args.progress.now held.before c.loop-floor.progress c.requires.walking
     o (sym (c.point.ensures o.at o.leads).ended ∙ c.if-point.false) held.counted all
 
 pub visit_after-returns-in_default-clause-prefix : goal.visit_after-returns-in_default-clause-prefix
@@ -332,7 +333,7 @@ visit_after-returns-in_default-clause-visited g t c =
     (vain_out (g.B.TourBound.aim c.args.guide.now.bound.now)
     (g.B.TourBound.bounds c.args.guide.now.bound.now) demand c.args.prefix.now best c.args.next c.requires.walking
     (g.met.B.TourBound.lower c.args.guide.now.bound.now) (c.step_below.ensures.none (none_there c.step_below.result c.in_default.not-Some)).1) in
-    left_aside to demand price c.args.limit c.args.progress.now c.args.progress.now.best (omega (arith, ints)) c.requires.limit c.requires.found
+    left_aside to demand price c.args.most_tours c.args.progress.now c.args.progress.now.best (omega (arith, ints)) c.requires.most_tours c.requires.found
     (vain led.0 led.1)
 
 pub visit_after-visit-requires : goal.visit_after-visit-requires
@@ -353,7 +354,7 @@ visit_after-visit-requires g t c κs within =
               (
                 made.2,
                 (
-                  c.requires.limit,
+                  c.requires.most_tours,
                   subst (λ (q : PartialTour). HasFound (aim_at q c.args.guide.now.demand.now a.price) c.args.progress.now) (sym made.0) c.requires.found,
                 ),
               ),
@@ -370,5 +371,6 @@ visit_after-returns-clause-prefix g t c =
 pub visit_after-returns-clause-visited : goal.visit_after-returns-clause-visited
 visit_after-returns-clause-visited g t c =
     let a = g.B.TourBound.aim c.args.guide.now.bound.now in
-    subst (λ (q : PartialTour). Visited q c.args.guide.now.demand.now a.price c.args.limit c.args.progress.now c.visit.new.progress) c.in-Some.ensures.made.0
+    subst (λ (q : PartialTour). Visited q c.args.guide.now.demand.now a.price c.args.most_tours c.args.progress.now c.visit.new.progress)
+    c.in-Some.ensures.made.0
     c.visit.ensures.visited

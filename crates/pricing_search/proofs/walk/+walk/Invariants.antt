@@ -17,7 +17,7 @@ decreases-visit_after g l = 2 * left_in l.prefix.now
 abbrev pub invariant-visit-loop-next : goal.invariant-visit-loop-next
 invariant-visit-loop-next g l = record {
   same : l.prefix ≡ l.initial.prefix;
-  visits : Visits l.initial.prefix l.guide.demand.now (g.B.TourBound.aim l.guide.bound.now).price l.limit l.next l.initial.progress l.progress;
+  visits : Visits l.initial.prefix l.guide.demand.now (g.B.TourBound.aim l.guide.bound.now).price l.most_tours l.next l.initial.progress l.progress;
 }
 
 abbrev pub invariant-visit-loop-floor : goal.invariant-visit-loop-floor
@@ -25,7 +25,7 @@ invariant-visit-loop-floor g l = record {
   same : l.prefix ≡ l.fn.prefix;
   before : Progress;
   counted : IsCounted l.fn.progress before;
-  visits : VisitsBut l.fn.prefix l.guide.demand.now (g.B.TourBound.aim l.guide.bound.now).price l.limit l.stops before l.progress;
+  visits : VisitsBut l.fn.prefix l.guide.demand.now (g.B.TourBound.aim l.guide.bound.now).price l.most_tours l.stops before l.progress;
 }
 
 abbrev pub decreases-visit-loop-floor : goal.decreases-visit-loop-floor

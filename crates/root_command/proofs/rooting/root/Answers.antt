@@ -13,19 +13,21 @@ returns-in-Ok-answer_of-clause-ends g c =
     let new = streams (left c.read_input.new.source) (g.K.Sink.taken c.put.new.sink) (g.S.Source.faults c.read_input.new.source)
     (g.K.Sink.faults c.put.new.sink) in
     let answer = c.in-Ok-answer_of.answer in
-    let due : RootAnswerIsDue c.args.rounds c.args.most_tours (left c.args.source.now) (left c.read_input.new.source) answer.status answer.text.items = record {
+    let due : RootAnswerIsDue c.args.limits.rounds c.args.limits.most_tours (left c.args.source.now)
+    (left c.read_input.new.source) answer.status answer.text.items = record {
       snapshot = c.in-Ok.snapshot;
       accepted = c.in-Ok.ensures.accepted;
       read = read_text (left c.args.source.now) c.in-Ok.snapshot c.in-Ok.ensures.case;
       ended = c.in-Ok.ensures.ended;
       told = c.in-Ok-answer_of.ensures;
     } in
-    ends_told c.args.rounds c.args.most_tours (left c.args.source.now) (left c.read_input.new.source) old new answer.text.items answer.status c.put.result due
+    ends_told c.args.limits.rounds c.args.limits.most_tours (left c.args.source.now)
+    (left c.read_input.new.source) old new answer.text.items answer.status c.put.result due
     (rw c.as_slice.ensures.value at c.put.ensures.put)
 
 pub returns-in-Ok-answer_of-clause-answers : goal.returns-in-Ok-answer_of-clause-answers
 returns-in-Ok-answer_of-clause-answers g c = λ input s given is reads writes.
-    is_answered c.in-Ok.snapshot c.args.rounds c.args.most_tours c.in-Ok-answer_of.answer.text.items c.in-Ok-answer_of.answer.status c.put.result
+    is_answered c.in-Ok.snapshot c.args.limits.rounds c.args.limits.most_tours c.in-Ok-answer_of.answer.text.items c.in-Ok-answer_of.answer.status c.put.result
     c.in-Ok-answer_of.ensures (put_whole _ c.in-Ok-answer_of.answer.status c.put.result _ _ _ _ c.put.ensures.put writes)
 
 pub returns-in-Ok-answer_of-clause-refuses : goal.returns-in-Ok-answer_of-clause-refuses
@@ -38,7 +40,8 @@ returns-clause-ends g c =
     let old = streams (left c.args.source.now) (g.K.Sink.taken c.args.sink.now) (g.S.Source.faults c.args.source.now) (g.K.Sink.faults c.args.sink.now) in
     let new = streams (left c.read_input.new.source) (g.K.Sink.taken c.put_fault.new.sink) (g.S.Source.faults c.read_input.new.source)
     (g.K.Sink.faults c.put_fault.new.sink) in
-    ends_fault (RootDue c.args.rounds c.args.most_tours (left c.args.source.now) (left c.read_input.new.source)) c.in-Err.fault old new c.put_fault.result
+    ends_fault (RootDue c.args.limits.rounds c.args.limits.most_tours (left c.args.source.now) (left c.read_input.new.source)) c.in-Err.fault old new
+    c.put_fault.result
     (λ text is_line. refusal_due (left c.args.source.now)
     (left c.read_input.new.source) c.in-Err.fault text is_line c.in-Err.ensures.refused c.in-Err.ensures.shows)
     (λ e. c.in-Err.ensures.read (ap Err e)) c.put_fault.ensures

@@ -14,12 +14,12 @@ pub returns : goal.returns
 returns c =
     let s = c.args.snapshot.now in
     let sheet = c.in_ok-sheet.sheet in
-    let Best : RootAnswer → Type 0 = IsRootAnswer s c.in_ok-start.start sheet c.args.rounds c.args.most_tours in
-    if_ok (λ a. c.root_best-answered.result ≡ Ok a) (IsRootSolution s c.args.rounds c.args.most_tours) (λ a is. record {
+    let Best : RootAnswer → Type 0 = IsRootAnswer s c.in_ok-start.start sheet c.args.limits.rounds c.args.limits.most_tours in
+    if_ok (λ a. c.root_best-answered.result ≡ Ok a) (IsRootSolution s c.args.limits.rounds c.args.limits.most_tours) (λ a is. record {
       plan = c.in_ok-start.start;
       feasible = c.in_ok-start.ensures.feasible;
       first = sheet;
       prices = c.in_ok-sheet.ensures.prices;
       worths = c.in_ok-sheet.ensures.worths;
       answer = subst (λ (r : Result RootAnswer Interruption). IfOk r Best) is c.root_best-answered.ensures.answer;
-    }) c.unstopped.result c.unstopped.ensures
+    }) c.unstopped.result c.unstopped.ensures.done

@@ -17,7 +17,7 @@ offer_tours-requires-clause-none g c κs within =
 
 pub returns-in_ok-offer_tours-clause-root : goal.returns-in_ok-offer_tours-clause-root
 returns-in_ok-offer_tours-clause-root g c =
-    root-cheaper (g.P.Pricer.snapshot c.args.pricer.now) c.args.most_tours c.args.self.now c.offer_tours.new.self c.requires.root
+    root-cheaper (g.P.Pricer.snapshot c.args.pricer.now) c.args.limits.most_tours c.args.self.now c.offer_tours.new.self c.requires.root
     c.in_ok-offer_tours.ensures.best c.in_ok-offer_tours.ensures.pool c.in_ok-offer_tours.ensures.cheaper
 
 pub offer_tours-requires-clause-best : goal.offer_tours-requires-clause-best

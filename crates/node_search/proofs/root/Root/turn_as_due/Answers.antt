@@ -15,9 +15,9 @@ use Rattle.node_search.proofs.root.Root.turn_as_due.Goals as goal
 pub returns-in_ok-turn_until-clause-due : goal.returns-in_ok-turn_until-clause-due
 returns-in_ok-turn_until-clause-due g c =
     let s = g.P.Pricer.snapshot c.args.pricer.now in
-    let calls : c.len-calls.result ≡ call_count s = (let all = root_calls s c.args.most_tours c.args.self.now c.requires.root in search (rules, all)) in
+    let calls : c.len-calls.result ≡ call_count s = (let all = root_calls s c.args.limits.most_tours c.args.self.now c.requires.root in search (rules, all)) in
     let node : (get_or c.branches.result.now 0 c.index-branches-0.result).node ≡ root_of s = search rules in
-    due_many s c.args.rounds _ c.turn_until.new.self c.in_ok-turn_until.ensures.enough (search rules) c.requires.rounds
+    due_many s c.args.limits.rounds _ c.turn_until.new.self c.in_ok-turn_until.ensures.enough (search rules) c.args.limits.range.0.0
     (λ single. choice_many c.len-calls.result
     (get_or c.branches.result.now 0 c.index-branches-0.result).node c.first_choice.result c.first_choice.ensures.call c.first_choice.ensures.part
     (search rules) (subst (λ (n : ℕ). AreSingle n (get_or c.branches.result.now 0 c.index-branches-0.result).node) (sym calls)
@@ -27,7 +27,7 @@ pub turn_once-requires-clause-single : goal.turn_once-requires-clause-single
 turn_once-requires-clause-single g c κs within =
     let s = g.P.Pricer.snapshot c.args.pricer.now in
     let node = (get_or c.branches.result.now 0 c.index-branches-0.result).node in
-    let calls : c.len-calls.result ≡ call_count s = (let all = root_calls s c.args.most_tours c.args.self.now c.requires.root in search (rules, all)) in
+    let calls : c.len-calls.result ≡ call_count s = (let all = root_calls s c.args.limits.most_tours c.args.self.now c.requires.root in search (rules, all)) in
     let is_root : node ≡ root_of s = search rules in
     let lone = choice_none c.len-calls.result node c.first_choice.result c.first_choice.ensures.call (search rules) in
     let single : AreSingle (call_count s) (root_of s) = subst (AreSingle (call_count s)) is_root (subst (λ (n : ℕ). AreSingle n node) calls lone) in
@@ -37,11 +37,11 @@ pub returns-in_ok-turn_once-clause-due : goal.returns-in_ok-turn_once-clause-due
 returns-in_ok-turn_once-clause-due g c =
     let s = g.P.Pricer.snapshot c.args.pricer.now in
     let node = (get_or c.branches.result.now 0 c.index-branches-0.result).node in
-    let calls : c.len-calls.result ≡ call_count s = (let all = root_calls s c.args.most_tours c.args.self.now c.requires.root in search (rules, all)) in
+    let calls : c.len-calls.result ≡ call_count s = (let all = root_calls s c.args.limits.most_tours c.args.self.now c.requires.root in search (rules, all)) in
     let is_root : node ≡ root_of s = search rules in
     let lone = choice_none c.len-calls.result node c.first_choice.result c.first_choice.ensures.call (search rules) in
     let single : AreSingle (call_count s) (root_of s) = subst (AreSingle (call_count s)) is_root (subst (λ (n : ℕ). AreSingle n node) calls lone) in
-    due_one s c.args.rounds c.turn_once.new.self c.in_ok-turn_once.ensures.turns c.in_ok-turn_once.ensures.solved c.requires.rounds single
+    due_one s c.args.limits.rounds c.turn_once.new.self c.in_ok-turn_once.ensures.turns c.in_ok-turn_once.ensures.solved c.args.limits.range.0.0 single
 
 pub turn_until-requires-clause-accepted : goal.turn_until-requires-clause-accepted
 turn_until-requires-clause-accepted g c κs within = c.requires.accepted
@@ -51,9 +51,6 @@ turn_until-requires-clause-root g c κs within = c.requires.root
 
 pub turn_until-requires-clause-desks : goal.turn_until-requires-clause-desks
 turn_until-requires-clause-desks g c κs within = c.requires.desks
-
-pub turn_until-requires-clause-most_tours : goal.turn_until-requires-clause-most_tours
-turn_until-requires-clause-most_tours g c κs within = c.requires.most_tours
 
 pub turn_until-requires-clause-most : goal.turn_until-requires-clause-most
 turn_until-requires-clause-most g c κs within = let none = ap length c.requires.turns in omega (arith, none)
@@ -66,9 +63,6 @@ turn_once-requires-clause-root g c κs within = c.requires.root
 
 pub turn_once-requires-clause-desks : goal.turn_once-requires-clause-desks
 turn_once-requires-clause-desks g c κs within = c.requires.desks
-
-pub turn_once-requires-clause-most_tours : goal.turn_once-requires-clause-most_tours
-turn_once-requires-clause-most_tours g c κs within = c.requires.most_tours
 
 pub turn_once-requires-clause-turns : goal.turn_once-requires-clause-turns
 turn_once-requires-clause-turns g c κs within = c.requires.turns
@@ -121,11 +115,12 @@ returns-in_err-turn_once-clause-goes_on g c going =
 pub returns-in_err-turn_once-clause-told : goal.returns-in_err-turn_once-clause-told
 returns-in_err-turn_once-clause-told g c told =
     let passed = err_from_is_err_and c.from_residual-in_err-turn_once.result c.from_residual-in_err-turn_once.ensures.1 in
-    let inner = passed_told (Err c.in_err-turn_once.field-0.0) c.from_residual-in_err-turn_once.result c.in_err-turn_once.field-0.0 passed.0 refl passed.1 passed.2 told in
+    let inner = passed_told
+    (Err c.in_err-turn_once.field-0.0) c.from_residual-in_err-turn_once.result c.in_err-turn_once.field-0.0 passed.0 refl passed.1 passed.2 told in
     let same = c.in_err-turn_once.ensures.told inner in
     let none = ap length c.requires.turns in
     record {
-      stands = subst (λ (x : Root). IsRoot (g.P.Pricer.snapshot c.args.pricer.now) c.args.most_tours x) (sym same) c.requires.root;
+      stands = subst (λ (x : Root). IsRoot (g.P.Pricer.snapshot c.args.pricer.now) c.args.limits.most_tours x) (sym same) c.requires.root;
       turned = subst (λ (x : Root). HasTurned c.args.self.now x) (sym same) (turned-none c.args.self.now);
-      few = subst (λ (x : Root). length x.turns.items ≤ c.args.rounds) (sym same) (omega (arith, none));
+      few = subst (λ (x : Root). length x.series.turns.items ≤ c.args.limits.rounds) (sym same) (omega (arith, none));
     }

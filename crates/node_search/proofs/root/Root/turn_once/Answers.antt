@@ -17,9 +17,6 @@ turn-requires-clause-root g c κs within = c.requires.root
 pub turn-requires-clause-desks : goal.turn-requires-clause-desks
 turn-requires-clause-desks g c κs within = c.requires.desks
 
-pub turn-requires-clause-most_tours : goal.turn-requires-clause-most_tours
-turn-requires-clause-most_tours g c κs within = c.requires.most_tours
-
 pub turn-requires-clause-turns : goal.turn-requires-clause-turns
 turn-requires-clause-turns g c κs within = let none = ap length c.requires.turns in omega (arith, none)
 

@@ -9,7 +9,7 @@ use Rattle.node_search.proofs.root.Root.turn_until.Goals as goal
 
 pub is_open-requires : goal.is_open-requires
 is_open-requires g c =
-    let one = root_lone (g.P.Pricer.snapshot c.args.pricer.now) c.args.most_tours _ c.loop-turn.invariant.root in
+    let one = root_lone (g.P.Pricer.snapshot c.args.pricer.now) c.args.limits.most_tours _ c.loop-turn.invariant.root in
     omega (arith, one)
 
 pub loop-turn-preserved : goal.loop-turn-preserved
@@ -31,9 +31,6 @@ turn-requires-clause-root g c κs within = c.loop-turn.invariant.root
 
 pub turn-requires-clause-desks : goal.turn-requires-clause-desks
 turn-requires-clause-desks g c κs within = c.loop-turn.invariant.desks
-
-pub turn-requires-clause-most_tours : goal.turn-requires-clause-most_tours
-turn-requires-clause-most_tours g c κs within = c.requires.most_tours
 
 pub turn-requires-clause-turns : goal.turn-requires-clause-turns
 turn-requires-clause-turns g c κs within =
@@ -73,7 +70,7 @@ returns-in_err-turn-clause-told g c told =
     let count = c.loop-turn.invariant.turns in
     let below = c.loop-turn-test.true in
     record {
-      stands = subst (λ (x : Root). IsRoot (g.P.Pricer.snapshot c.args.pricer.now) c.args.most_tours x) (sym same) c.loop-turn.invariant.root;
+      stands = subst (λ (x : Root). IsRoot (g.P.Pricer.snapshot c.args.pricer.now) c.args.limits.most_tours x) (sym same) c.loop-turn.invariant.root;
       turned = subst (λ (x : Root). HasTurned c.args.self.now x) (sym same) c.loop-turn.invariant.turned;
-      few = subst (λ (x : Root). length x.turns.items ≤ c.args.most) (sym same) (omega (arith, count, below));
+      few = subst (λ (x : Root). length x.series.turns.items ≤ c.args.most) (sym same) (omega (arith, count, below));
     }

@@ -13,7 +13,7 @@ price_nodes-requires-clause-tasks g c κs within =
     let s = g.P.Pricer.snapshot c.args.pricer.now in
     let tasks = c.in_ok-tasks.tasks.items in
     subst (All (IsTaskOf s)) (sym c.deref.ensures.value)
-    (tasks_are s c.args.most_tours c.args.self.now c.args.chosen.now c.requires.way c.requires.taken tasks c.in_ok-tasks.ensures)
+    (tasks_are s c.args.limits.most_tours c.args.self.now c.args.chosen.now c.requires.way c.requires.taken tasks c.in_ok-tasks.ensures)
 
 pub returns-clause-priced : goal.returns-clause-priced
 returns-clause-priced g c =
@@ -22,10 +22,10 @@ returns-clause-priced g c =
     let given : c.deref.result.now ≡ tasks = c.deref.ensures.value in
     let cars : length c.cars.result.now ≡ car_count s = search rules in
     ok_both c.price_nodes.result (λ (answers : Vec TurnOf Global). length answers.items ≡ length c.deref.result.now * length c.cars.result.now)
-    (λ (answers : Vec TurnOf Global). AreAnswersOf s c.args.most_tours c.deref.result.now (length c.cars.result.now) answers.items)
-    (λ (answers : Vec TurnOf Global). ArePriced s c.args.most_tours c.args.self.now c.args.chosen.now answers.items)
+    (λ (answers : Vec TurnOf Global). AreAnswersOf s c.args.limits.most_tours c.deref.result.now (length c.cars.result.now) answers.items)
+    (λ (answers : Vec TurnOf Global). ArePriced s c.args.limits.most_tours c.args.self.now c.args.chosen.now answers.items)
     (λ answers count right.
-    priced_are s c.args.most_tours c.args.self.now c.args.chosen.now c.requires.way c.requires.taken tasks c.in_ok-tasks.ensures
+    priced_are s c.args.limits.most_tours c.args.self.now c.args.chosen.now c.requires.way c.requires.taken tasks c.in_ok-tasks.ensures
     (length c.cars.result.now) answers.items cars (subst (λ (ts : List Task). length answers.items ≡ length ts * length c.cars.result.now) given count)
-    (subst (λ (ts : List Task). AreAnswersOf s c.args.most_tours ts (length c.cars.result.now) answers.items) given right)) c.price_nodes.ensures.count
+    (subst (λ (ts : List Task). AreAnswersOf s c.args.limits.most_tours ts (length c.cars.result.now) answers.items) given right)) c.price_nodes.ensures.count
     c.price_nodes.ensures.answers

@@ -40,7 +40,7 @@ select-requires-clause-prices g c =
     let some : 0 < length chosen = some-of (vec_len c.in_ok-chosen.chosen) (length chosen) (omega (arith, ok)) (sym c.is_empty.ensures ∙ c.if-is_empty.false) in
     let at : slice_get chosen 0 ≡ Some c.index.result.now = slice_get_read chosen (length chosen) 0 c.index.result.now refl some c.index.ensures in
     let same : c.settle_all.new.self.best.pool.snapshot ≡ s = c.in_ok-settle_all.ensures.way.best.snapshot in
-    ap length c.deref-4.ensures.value ∙ taken_calls s c.args.most_tours old chosen c.requires.searching.under_way taken 0 c.index.result.now at
+    ap length c.deref-4.ensures.value ∙ taken_calls s c.args.limits.most_tours old chosen c.requires.searching.under_way taken 0 c.index.result.now at
     ∙ ap call_count (sym same)
 
 pub returns-clause-searching : goal.returns-clause-searching
@@ -56,7 +56,7 @@ returns-clause-searching g c =
     subst (λ (cs : List Chosen). HasAdvanced s (length cs) old mid) c.deref-2.ensures.value c.in_ok-settle_all.ensures.advanced in
     let same : mid.best.pool.snapshot ≡ s = c.in_ok-settle_all.ensures.way.best.snapshot in
     let best : IsBest s c.select.new.self = subst (λ (x : Snapshot). IsBest x c.select.new.self) same c.in_ok-select.ensures.best in
-    round_searching s c.args.most_tours
+    round_searching s c.args.limits.most_tours
     (length chosen) old mid _ c.requires.searching some taken.few c.in_ok-settle_all.ensures.way advanced best c.in_ok-select.ensures.cheaper refl
     (ap (λ (n : ℕ). n + 1) advanced.done)
 

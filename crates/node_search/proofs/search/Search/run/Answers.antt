@@ -12,7 +12,7 @@ loop-self-init g c =
     record {
       searching = c.requires.searching;
       cheaper = omega arith;
-      few = c.requires.rounds.0;
+      few = c.requires.done;
       sums = λ z h. h;
       desks = c.requires.desks;
     }
@@ -35,10 +35,11 @@ loop-self-preserved g c =
     let count = c.round.auto.desks in
     let least = was.desks.0 in
     let most = was.desks.1 in
+    let rounds = c.rounds-rounds.ensures.value in
     record {
       searching = c.in_ok-round.ensures.searching;
       cheaper = omega (arith, cheaper, before);
-      few = omega (arith, done, below);
+      few = omega (arith, done, below, rounds);
       sums = λ z h. round.sums z (was.sums z h);
       desks = (omega (arith, count, least), omega (arith, count, most), c.round.ensures.desks);
     }
@@ -51,10 +52,11 @@ returns-after-loop-self-clause-run g c =
     let was = c.loop-self.invariant in
     let few = was.few in
     let past = c.loop-self-test.false in
+    let rounds = c.rounds-rounds.ensures.value in
     record {
       cheaper = was.cheaper;
       few = few;
-      ended = inl (omega (arith, few, past));
+      ended = inl (omega (arith, few, past, rounds));
       sums = was.sums;
     }
 
@@ -69,7 +71,7 @@ returns-then-not-branch-clause-run g c =
     let same : c.round.new.self ≡ c.loop-self.self = c.in_ok-round.ensures.same c.if-not-branch.true in
     record {
       cheaper = subst (λ (x : Search). x.best.cost ≤ c.args.self.now.best.cost) (sym same) was.cheaper;
-      few = subst (λ (x : Search). x.done ≤ c.args.rounds) (sym same) few;
+      few = subst (λ (x : Search). x.done ≤ c.args.limits.rounds) (sym same) few;
       ended = inr (c.in_ok-round.ensures.rest c.if-not-branch.true);
       sums = λ z h. subst (λ (x : Search). AllInTree (IsAtLeast z) s x.tree.branches) (sym same) (was.sums z h);
     }
@@ -86,10 +88,10 @@ returns-in_err-round-clause-told g c told =
     let s = g.P.Pricer.snapshot c.args.pricer.now in
     let was = c.loop-self.invariant in
     let same = c.in_err-round.ensures.told inner in (
-      subst (λ (x : Search). IsSearching s c.args.most_tours x) (sym same) was.searching,
+      subst (λ (x : Search). IsSearching s c.args.limits.most_tours x) (sym same) was.searching,
       record {
         cheaper = subst (λ (x : Search). x.best.cost ≤ c.args.self.now.best.cost) (sym same) was.cheaper;
-        few = subst (λ (x : Search). x.done ≤ c.args.rounds) (sym same) was.few;
+        few = subst (λ (x : Search). x.done ≤ c.args.limits.rounds) (sym same) was.few;
         sums = λ z h. subst (λ (x : Search). AllInTree (IsAtLeast z) s x.tree.branches) (sym same) (was.sums z h);
       },
     )

@@ -9,7 +9,7 @@ use Rattle.node_search.proofs.search.Search.settle.Goals as goal
 pub put_tours-requires-clause-tours : goal.put_tours-requires-clause-tours
 put_tours-requires-clause-tours g c =
     let pool = c.args.self.now.best.pool in
-    feasible_tours (g.P.Pricer.snapshot c.args.pricer.now) pool.snapshot c.args.most_tours
+    feasible_tours (g.P.Pricer.snapshot c.args.pricer.now) pool.snapshot c.args.limits.most_tours
     (at_place c.args.self.now.tree.branches c.args.place).node c.args.prices.now c.args.cars.now c.requires.way.best.snapshot c.requires.pricing.answers
 
 pub settle_open-requires-clause-way : goal.settle_open-requires-clause-way
@@ -17,7 +17,7 @@ settle_open-requires-clause-way g c κs within =
     let s = g.P.Pricer.snapshot c.args.pricer.now in
     record {
       best = subst (λ (x : Snapshot). IsBest x c.put_tours.new.self) c.requires.way.best.snapshot c.in_ok-put_tours.ensures.best;
-      tree = subst (λ (n : ℕ). IsTreeOf s c.args.most_tours n c.args.self.now.tree.branches) (sym c.in_ok-put_tours.ensures.cost) c.requires.way.tree;
+      tree = subst (λ (n : ℕ). IsTreeOf s c.args.limits.most_tours n c.args.self.now.tree.branches) (sym c.in_ok-put_tours.ensures.cost) c.requires.way.tree;
     }
 
 pub settle_open-requires-clause-pricing : goal.settle_open-requires-clause-pricing
@@ -36,7 +36,7 @@ settle_single-requires-clause-way g c κs within =
     let s = g.P.Pricer.snapshot c.args.pricer.now in
     record {
       best = subst (λ (x : Snapshot). IsBest x c.put_tours.new.self) c.requires.way.best.snapshot c.in_ok-put_tours.ensures.best;
-      tree = subst (λ (n : ℕ). IsTreeOf s c.args.most_tours n c.args.self.now.tree.branches) (sym c.in_ok-put_tours.ensures.cost) c.requires.way.tree;
+      tree = subst (λ (n : ℕ). IsTreeOf s c.args.limits.most_tours n c.args.self.now.tree.branches) (sym c.in_ok-put_tours.ensures.cost) c.requires.way.tree;
     }
 
 pub settle_single-requires-clause-pricing : goal.settle_single-requires-clause-pricing

@@ -11,7 +11,7 @@ take_in-requires-clause-place g c = c.requires.pricing.within
 
 pub take_in-requires-clause-sizes : goal.take_in-requires-clause-sizes
 take_in-requires-clause-sizes g c =
-    pricing_sizes (g.P.Pricer.snapshot c.args.pricer.now) c.args.most_tours c.args.self.now c.args.place c.args.prices.now c.args.cars.now c.requires.way
+    pricing_sizes (g.P.Pricer.snapshot c.args.pricer.now) c.args.limits.most_tours c.args.self.now c.args.place c.args.prices.now c.args.cars.now c.requires.way
     c.requires.pricing
 
 pub take_in-requires-clause-rounds : goal.take_in-requires-clause-rounds
@@ -19,12 +19,12 @@ take_in-requires-clause-rounds g c = c.requires.pricing.few
 
 pub take_in-requires-clause-calls : goal.take_in-requires-clause-calls
 take_in-requires-clause-calls g c =
-    pricing_calls (g.P.Pricer.snapshot c.args.pricer.now) c.args.most_tours c.args.self.now c.args.place c.args.prices.now c.args.cars.now c.requires.way
+    pricing_calls (g.P.Pricer.snapshot c.args.pricer.now) c.args.limits.most_tours c.args.self.now c.args.place c.args.prices.now c.args.cars.now c.requires.way
     c.requires.pricing
 
 pub take_in-requires-clause-cars : goal.take_in-requires-clause-cars
 take_in-requires-clause-cars g c =
-    pricing_cars (g.P.Pricer.snapshot c.args.pricer.now) c.args.most_tours c.args.self.now c.args.place c.args.prices.now c.args.cars.now c.requires.way
+    pricing_cars (g.P.Pricer.snapshot c.args.pricer.now) c.args.limits.most_tours c.args.self.now c.args.place c.args.prices.now c.args.cars.now c.requires.way
     c.requires.pricing
 
 pub is_due-requires : goal.is_due-requires
@@ -52,7 +52,7 @@ returns-in_ok-split-clause-way g c =
     let s = g.P.Pricer.snapshot c.args.pricer.now in
     let old = c.args.self.now in
     let new : Search = record { tree = c.split.new.tree; best = old.best; done = old.done } in
-    grown_way s c.args.most_tours
+    grown_way s c.args.limits.most_tours
     (cars-le s c.requires.accepted) old new c.args.place c.args.prices.now c.args.cars.now c.requires.way c.requires.pricing c.requires.way.best
     (omega arith) refl c.take_in.new.tree.branches c.in_ok-take_in.ensures c.in_ok-split.ensures
 
@@ -61,7 +61,7 @@ returns-in_ok-split-clause-settled g c =
     let s = g.P.Pricer.snapshot c.args.pricer.now in
     let old = c.args.self.now in
     let new : Search = record { tree = c.split.new.tree; best = old.best; done = old.done } in
-    grown_settled s c.args.most_tours
+    grown_settled s c.args.limits.most_tours
     (cars-le s c.requires.accepted) old new c.args.place c.args.prices.now c.args.cars.now c.requires.way c.requires.pricing c.requires.way.best
     (omega arith) refl c.take_in.new.tree.branches c.in_ok-take_in.ensures c.in_ok-split.ensures
 
@@ -71,10 +71,11 @@ returns-else-is_due-clause-way g c =
     let old = c.args.self.now in
     let new : Search = record { tree = c.take_in.new.tree; best = old.best; done = old.done } in
     let few = cars-le s c.requires.accepted in
-    let rests = rests_open s c.args.most_tours few old new c.args.place c.args.prices.now c.args.cars.now c.requires.way c.requires.pricing c.requires.way.best
+    let rests = rests_open s c.args.limits.most_tours few old new c.args.place c.args.prices.now c.args.cars.now c.requires.way c.requires.pricing
+    c.requires.way.best
     (omega arith) refl c.take_in.new.tree.branches c.in_ok-take_in.ensures c.args.first.call c.args.first.part c.requires.call c.requires.part
     (c.is_due.ensures.most c.if-is_due.false) in
-    rests_way s c.args.most_tours few old new c.args.place c.args.prices.now c.args.cars.now c.requires.way c.requires.pricing c.requires.way.best
+    rests_way s c.args.limits.most_tours few old new c.args.place c.args.prices.now c.args.cars.now c.requires.way c.requires.pricing c.requires.way.best
     (omega arith) refl c.in_ok-take_in.ensures rests
 
 pub returns-else-is_due-clause-settled : goal.returns-else-is_due-clause-settled
@@ -83,8 +84,9 @@ returns-else-is_due-clause-settled g c =
     let old = c.args.self.now in
     let new : Search = record { tree = c.take_in.new.tree; best = old.best; done = old.done } in
     let few = cars-le s c.requires.accepted in
-    let rests = rests_open s c.args.most_tours few old new c.args.place c.args.prices.now c.args.cars.now c.requires.way c.requires.pricing c.requires.way.best
+    let rests = rests_open s c.args.limits.most_tours few old new c.args.place c.args.prices.now c.args.cars.now c.requires.way c.requires.pricing
+    c.requires.way.best
     (omega arith) refl c.take_in.new.tree.branches c.in_ok-take_in.ensures c.args.first.call c.args.first.part c.requires.call c.requires.part
     (c.is_due.ensures.most c.if-is_due.false) in
-    rests_settled s c.args.most_tours few old new c.args.place c.args.prices.now c.args.cars.now c.requires.way c.requires.pricing c.requires.way.best
+    rests_settled s c.args.limits.most_tours few old new c.args.place c.args.prices.now c.args.cars.now c.requires.way c.requires.pricing c.requires.way.best
     (omega arith) refl c.in_ok-take_in.ensures rests

@@ -17,7 +17,7 @@ note-requires-clause-place g c = c.requires.pricing.within
 
 pub note-requires-clause-sizes : goal.note-requires-clause-sizes
 note-requires-clause-sizes g c =
-    pricing_sizes (g.P.Pricer.snapshot c.args.pricer.now) c.args.most_tours c.args.self.now c.args.place c.args.prices.now c.args.cars.now c.requires.way
+    pricing_sizes (g.P.Pricer.snapshot c.args.pricer.now) c.args.limits.most_tours c.args.self.now c.args.place c.args.prices.now c.args.cars.now c.requires.way
     c.requires.pricing
 
 pub note-requires-clause-rounds : goal.note-requires-clause-rounds
@@ -25,19 +25,19 @@ note-requires-clause-rounds g c = c.requires.pricing.few
 
 pub note-requires-clause-calls : goal.note-requires-clause-calls
 note-requires-clause-calls g c =
-    pricing_calls (g.P.Pricer.snapshot c.args.pricer.now) c.args.most_tours c.args.self.now c.args.place c.args.prices.now c.args.cars.now c.requires.way
+    pricing_calls (g.P.Pricer.snapshot c.args.pricer.now) c.args.limits.most_tours c.args.self.now c.args.place c.args.prices.now c.args.cars.now c.requires.way
     c.requires.pricing
 
 pub note-requires-clause-cars : goal.note-requires-clause-cars
 note-requires-clause-cars g c =
-    pricing_cars (g.P.Pricer.snapshot c.args.pricer.now) c.args.most_tours c.args.self.now c.args.place c.args.prices.now c.args.cars.now c.requires.way
+    pricing_cars (g.P.Pricer.snapshot c.args.pricer.now) c.args.limits.most_tours c.args.self.now c.args.place c.args.prices.now c.args.cars.now c.requires.way
     c.requires.pricing
 
 pub offer_tours-requires-clause-node : goal.offer_tours-requires-clause-node
 offer_tours-requires-clause-node g c κs within =
     let node : c.index-branches-place.result.node ≡ (at_place c.args.self.now.tree.branches c.args.place).node = search rules in
     subst (IsNodeOf (g.P.Pricer.snapshot c.args.pricer.now)) (sym node)
-    (pricing_node (g.P.Pricer.snapshot c.args.pricer.now) c.args.most_tours c.args.self.now c.args.place c.args.prices.now c.args.cars.now c.requires.way
+    (pricing_node (g.P.Pricer.snapshot c.args.pricer.now) c.args.limits.most_tours c.args.self.now c.args.place c.args.prices.now c.args.cars.now c.requires.way
     c.requires.pricing)
 
 pub offer_tours-requires-clause-none : goal.offer_tours-requires-clause-none
@@ -51,13 +51,14 @@ returns-in_ok-offer_tours-clause-way g c =
     let tree : c.note.new.self.branches
     ≡ set c.args.self.now.tree.branches c.args.place (noted (at_place c.args.self.now.tree.branches c.args.place) c.args.prices.now c.args.cars.now) =
     c.note.ensures.branches in
-    rests_way (g.P.Pricer.snapshot c.args.pricer.now) c.args.most_tours (cars-le (g.P.Pricer.snapshot c.args.pricer.now) c.requires.accepted) c.args.self.now
+    rests_way (g.P.Pricer.snapshot c.args.pricer.now) c.args.limits.most_tours
+    (cars-le (g.P.Pricer.snapshot c.args.pricer.now) c.requires.accepted) c.args.self.now
     (record { tree = c.note.new.self; best = c.offer_tours.new.self; done = c.args.self.now.done }) c.args.place c.args.prices.now c.args.cars.now
     c.requires.way c.requires.pricing c.in_ok-offer_tours.ensures.best c.in_ok-offer_tours.ensures.cheaper refl tree
     (single_rests (g.P.Pricer.snapshot c.args.pricer.now) c.offer_tours.new.self.cost
     (noted (at_place c.args.self.now.tree.branches c.args.place) c.args.prices.now c.args.cars.now) c.requires.single
     (λ none. c.in_ok-offer_tours.ensures.least (noted (at_place c.args.self.now.tree.branches c.args.place) c.args.prices.now c.args.cars.now).sheet
-    (sheet-takes (g.P.Pricer.snapshot c.args.pricer.now) c.args.most_tours
+    (sheet-takes (g.P.Pricer.snapshot c.args.pricer.now) c.args.limits.most_tours
     (cars-le (g.P.Pricer.snapshot c.args.pricer.now) c.requires.accepted) c.args.self.now
     (record { tree = c.note.new.self; best = c.offer_tours.new.self; done = c.args.self.now.done }) c.args.place c.args.prices.now c.args.cars.now
     c.requires.way c.requires.pricing c.in_ok-offer_tours.ensures.best c.in_ok-offer_tours.ensures.cheaper refl)))
@@ -67,14 +68,14 @@ returns-in_ok-offer_tours-clause-settled g c =
     let tree : c.note.new.self.branches
     ≡ set c.args.self.now.tree.branches c.args.place (noted (at_place c.args.self.now.tree.branches c.args.place) c.args.prices.now c.args.cars.now) =
     c.note.ensures.branches in
-    rests_settled (g.P.Pricer.snapshot c.args.pricer.now) c.args.most_tours
+    rests_settled (g.P.Pricer.snapshot c.args.pricer.now) c.args.limits.most_tours
     (cars-le (g.P.Pricer.snapshot c.args.pricer.now) c.requires.accepted) c.args.self.now
     (record { tree = c.note.new.self; best = c.offer_tours.new.self; done = c.args.self.now.done }) c.args.place c.args.prices.now c.args.cars.now
     c.requires.way c.requires.pricing c.in_ok-offer_tours.ensures.best c.in_ok-offer_tours.ensures.cheaper refl tree
     (single_rests (g.P.Pricer.snapshot c.args.pricer.now) c.offer_tours.new.self.cost
     (noted (at_place c.args.self.now.tree.branches c.args.place) c.args.prices.now c.args.cars.now) c.requires.single
     (λ none. c.in_ok-offer_tours.ensures.least (noted (at_place c.args.self.now.tree.branches c.args.place) c.args.prices.now c.args.cars.now).sheet
-    (sheet-takes (g.P.Pricer.snapshot c.args.pricer.now) c.args.most_tours
+    (sheet-takes (g.P.Pricer.snapshot c.args.pricer.now) c.args.limits.most_tours
     (cars-le (g.P.Pricer.snapshot c.args.pricer.now) c.requires.accepted) c.args.self.now
     (record { tree = c.note.new.self; best = c.offer_tours.new.self; done = c.args.self.now.done }) c.args.place c.args.prices.now c.args.cars.now
     c.requires.way c.requires.pricing c.in_ok-offer_tours.ensures.best c.in_ok-offer_tours.ensures.cheaper refl)))
@@ -89,7 +90,8 @@ returns-else-is_none-clause-way g c =
     let some : is_some c.index-branches-place.result.spent ≡ true = search rules in
     let spent : (noted (at_place c.args.self.now.tree.branches c.args.place) c.args.prices.now c.args.cars.now).spent ≡ None
     → ⊥ = λ none. both_ways (is_some c.index-branches-place.result.spent) (ap is_some (at ∙ none)) some in
-    rests_way (g.P.Pricer.snapshot c.args.pricer.now) c.args.most_tours (cars-le (g.P.Pricer.snapshot c.args.pricer.now) c.requires.accepted) c.args.self.now
+    rests_way (g.P.Pricer.snapshot c.args.pricer.now) c.args.limits.most_tours
+    (cars-le (g.P.Pricer.snapshot c.args.pricer.now) c.requires.accepted) c.args.self.now
     (record { tree = c.note.new.self; best = c.args.self.now.best; done = c.args.self.now.done }) c.args.place c.args.prices.now c.args.cars.now
     c.requires.way c.requires.pricing c.requires.way.best (omega arith) refl tree
     (single_rests (g.P.Pricer.snapshot c.args.pricer.now) c.args.self.now.best.cost
@@ -105,7 +107,7 @@ returns-else-is_none-clause-settled g c =
     let some : is_some c.index-branches-place.result.spent ≡ true = search rules in
     let spent : (noted (at_place c.args.self.now.tree.branches c.args.place) c.args.prices.now c.args.cars.now).spent ≡ None
     → ⊥ = λ none. both_ways (is_some c.index-branches-place.result.spent) (ap is_some (at ∙ none)) some in
-    rests_settled (g.P.Pricer.snapshot c.args.pricer.now) c.args.most_tours
+    rests_settled (g.P.Pricer.snapshot c.args.pricer.now) c.args.limits.most_tours
     (cars-le (g.P.Pricer.snapshot c.args.pricer.now) c.requires.accepted) c.args.self.now
     (record { tree = c.note.new.self; best = c.args.self.now.best; done = c.args.self.now.done }) c.args.place c.args.prices.now c.args.cars.now
     c.requires.way c.requires.pricing c.requires.way.best (omega arith) refl tree

@@ -1,5 +1,5 @@
 use Rattle.std.specs.Prelude.{slice_index, slice_index_or}
-use Rattle.std.proofs.Common.{◌<◌, ◌*◌, ◌/◌, ◌%◌, length, subst, arith}
+use Rattle.std.proofs.Common.{ℕ, ◌<◌, ◌*◌, ◌/◌, ◌%◌, length, subst, arith}
 use Rattle.std.proofs.lemmas.Option.{slice_get-get_or, get_or_from_slice_get}
 use Rattle.search_model.specs.Prices.{price_at}
 use Rattle.assign_branch.specs.Pricings.{Pricing}
@@ -36,15 +36,18 @@ returns-clause-answer g c task at =
     let here : Task = slice_index_or it.tasks.now (pricing / it.cars) c.index-self-pricing.result in
     let told = c.price-priced.ensures in
     let p : Pricing = record { car = car; node = here.node.now; prices = here.prices.now; answer = c.price-priced.result } in
-    let answer : IsAnswerIn s it.most_tours here.node.now (price_at here.prices.now) car
+    let most_tours = c.most_tours-most_tours.result in
+    let answer : IsAnswerIn s most_tours here.node.now (price_at here.prices.now) car
     (record { priced = c.price-priced.result; tour = c.in_ok-tour.tour }) = record {
       worth = told.worth;
       size = told.size;
       least = told.least;
       gives = λ e. gives_tour s p c.in_ok-tour.tour (c.in_ok-tour.ensures.least p told.held e);
-      many = λ e. (told.spent e).1;
+      many = told.spent;
       within = c.in_ok-tour.ensures.within p told.held;
     } in
     subst (λ (t : Task).
-    IsAnswerIn s it.most_tours t.node.now (price_at t.prices.now) car (record { priced = c.price-priced.result; tour = c.in_ok-tour.tour }))
-    (get_or_from_slice_get it.tasks.now (pricing / it.cars) task c.index-self-pricing.result at) answer
+    IsAnswerIn s it.limits.most_tours t.node.now (price_at t.prices.now) car (record { priced = c.price-priced.result; tour = c.in_ok-tour.tour }))
+    (get_or_from_slice_get it.tasks.now (pricing / it.cars) task c.index-self-pricing.result at)
+    (subst (λ (n : ℕ). IsAnswerIn s n here.node.now (price_at here.prices.now) car (record { priced = c.price-priced.result; tour = c.in_ok-tour.tour }))
+    c.most_tours-most_tours.ensures.value answer)

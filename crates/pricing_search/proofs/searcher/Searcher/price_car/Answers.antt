@@ -129,8 +129,8 @@ returns-clause-priced c =
     let dives = aims_same dive (node_aim s node c.args.car c.args.prices.now) of_rates c.new-rides.ensures.car prices
     (ap has c.new-rides.ensures.allowed ∙ allowed) (ap has c.new-rides.ensures.required ∙ required) in
     let least_is = same ∙ c.least_worth-least.ensures.bound ∙ bound_of_node dive t s node c.args.car c.args.prices.now dives of_prefix of_car in
-    priced s node c.args.car c.args.prices.now least c.args.limit c.search.new.progress.found c.search.result least_is
-    (told_of_node a demand t s node c.args.car c.args.prices.now least c.args.limit c.search.new.progress.found c.search.result here there
+    priced s node c.args.car c.args.prices.now least c.args.most_tours c.search.new.progress.found c.search.result least_is
+    (told_of_node a demand t s node c.args.car c.args.prices.now least c.args.most_tours c.search.new.progress.found c.search.result here there
     c.search.ensures.searched)
 
 pub returns-clause-own : goal.returns-clause-own

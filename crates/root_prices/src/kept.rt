@@ -1,6 +1,6 @@
-//! Turns at the root, one after another.
+//! Turns at the root, and what is kept of them.
 
-ghost use Rattle.std.specs.Prelude.{◌≡◌, ◌<◌, ◌≤◌, ◌+◌, ◌^◌, ℕ, [], ◌∷◌, ◌++◌, IfOk, IsOkUnless, OnOk, length, map};
+ghost use Rattle.std.specs.Prelude.{◌≡◌, ◌<◌, ◌≤◌, ◌+◌, ℕ, [], IfOk, IsOkUnless, OnOk, length, map};
 ghost use Rattle.elevator_model.specs.Snapshot.{IsAccepted};
 ghost use Rattle.elevator_model.specs.Plans.{IsFeasiblePlan};
 ghost use Rattle.search_model.specs.declared.interruptions.Interruption.TheVariants.{OutOfMemory};
@@ -16,29 +16,24 @@ use byte_streams::Gate;
 use call_state::Snapshot;
 use elevator_model::{MOST_CALLS, MOST_CARS, Plan};
 use price_scale::Price;
-use pricing_rounds::{PricingCrew, Task};
+use pricing_rounds::PricingCrew;
 use restricted_master::Pool;
-use root_turns::{greatest_of, pool_of, price_turn, prices_after, put_turn, step_after};
-use search_model::{Interruption, Items, Turn, TurnOf};
+use root_turns::{TurnSeries, pool_of, put_turn};
+use search_model::{Interruption, Limits, TurnOf};
 use search_tree::Sheet;
 use std::alloc::{AllocError, Global};
-use std::mem::replace;
 use work_fan::Runtime;
 
 /// The turns so far, and what is kept of them.
 #[derive(Drop)]
-pub(crate) struct Series<'a> {
+pub(crate) struct KeptTurns<'a> {
     /// A feasible plan, whose tours are in the pool from the beginning.
     pub(crate) start: &'a Plan,
     /// The tours of the start plan and of the turns.
     pub(crate) pool: Pool<'a>,
     /// The prices and worths with the greatest sum.
     pub(crate) sheet: Sheet,
-    pub(crate) turns: Vec<Turn>,
-    /// The prices of the next turn.
-    pub(crate) prices: Vec<Price>,
-    /// The greatest of 0 and the prices of the first turn, in thousandths of a cost unit.
-    pub(crate) step: i128,
+    pub(crate) series: TurnSeries,
 }
 
 /// The worths of the pricings. It fails only where there is no memory left.
@@ -84,9 +79,8 @@ fn improve(
     Ok(())
 }
 
-impl<'a> Series<'a> {
-    ghost use Rattle.root_turns.specs.Dues.{turn_with};
-    ghost use Rattle.root_prices.specs.SeriesOfTurns.{CanTake, HasTaken, HasTakenIn, IsSeries};
+impl<'a> KeptTurns<'a> {
+    ghost use Rattle.root_prices.specs.KeptTurns.{AreKept, CanTake, HasKept, HasTaken};
 
     /// No turn yet, before one at these prices. It fails only where there is no memory left.
     pub(crate) fn new(
@@ -97,89 +91,66 @@ impl<'a> Series<'a> {
     ) -> Result<Self, AllocError>
         requires start { IsFeasiblePlan snapshot.now start.now }
         requires sheet { IsSheetIn snapshot.now (root_of snapshot.now) sheet }
-        ensures series { IfOk result (λ x. (most_tours : ℕ) → IsSeries snapshot.now most_tours sheet x) }
-        ensures turns { IfOk result (λ x. x.turns.items ≡ []) }
+        ensures kept { IfOk result (λ x. (most_tours : ℕ) → AreKept snapshot.now most_tours sheet x) }
+        ensures turns { IfOk result (λ x. x.series.turns.items ≡ []) }
         ensures start { IfOk result (λ x. x.start.now ≡ start.now) }
     {
-        let prices = sheet.prices().to_vec(alloc)?;
-        let step = greatest_of(&prices);
+        let series = TurnSeries::new(alloc, sheet.prices())?;
         let pool = pool_of(alloc, snapshot, start)?;
-        Ok(Series {
+        Ok(KeptTurns {
             start,
             pool,
             sheet,
-            turns: Vec::new(alloc),
-            prices,
-            step,
+            series,
         })
     }
 
-    /// The pricings of all cars in the root at the present prices. It fails only where there is no memory
-    /// left, or where it was told to stop.
+    /// The pricings of all cars in the root at the prices of the next turn. It fails only where there is no
+    /// memory left, or where it was told to stop.
     fn price<P: Pricer, C: PricingCrew<P>, G: Gate>(
         &self,
         runtime: &Runtime<C, G>,
         pricer: &P,
-        node: &Node,
-        most_tours: u64,
+        root: &Node,
+        limits: Limits,
         desks: &mut [P::Desk],
     ) -> Result<Vec<TurnOf>, Interruption>
         requires accepted { IsAccepted (P.snapshot pricer.now) }
-        requires series { (first : PriceSheet) × IsSeries (P.snapshot pricer.now) most_tours first self.now }
-        requires node { node.now ≡ root_of (P.snapshot pricer.now) }
+        requires kept { (first : PriceSheet)
+            × AreKept (P.snapshot pricer.now) limits.most_tours first self.now }
+        requires root { root.now ≡ root_of (P.snapshot pricer.now) }
         requires is_node { IsNodeOf (P.snapshot pricer.now) (root_of (P.snapshot pricer.now)) }
-        requires most_tours { (1 ≤ most_tours) × (most_tours ≤ 10 ^ 18) }
         requires desks { Serving (P.owns pricer.now) desks.old }
-        ensures answers { IfOk result (λ cars. AreAnswersIn (P.snapshot pricer.now) most_tours
-            (root_of (P.snapshot pricer.now)) self.now.prices.items cars.items) }
+        ensures answers { IfOk result (λ cars. AreAnswersIn (P.snapshot pricer.now) limits.most_tours
+            (root_of (P.snapshot pricer.now)) self.now.series.prices.items cars.items) }
         ensures goes_on { G.never_stops runtime.now.gate.now
             → IsOkUnless result OutOfMemory }
         ensures desks { Serving (P.owns pricer.now) desks.new }
     {
         let cars = self.pool.snapshot().building().cars().len() as u32;
-        let prices = self.prices.as_slice();
-        let task = Task { node, prices };
-        let last = self.turns.last();
-        price_turn(runtime, pricer, cars, task, last, most_tours, desks)
+        self.series
+            .price(runtime, pricer, cars, root, limits, desks)
     }
 
-    /// Takes in the pricings of all cars at the present prices, and answers the prices of the next turn. It
-    /// fails only where there is no memory left.
-    fn take_in(&mut self, alloc: Global, cars: &[TurnOf]) -> Result<Vec<Price>, AllocError>
+    /// Keeps the tours of the pricings of all cars at the present prices, and their worths where they have
+    /// the greatest sum. It fails only where there is no memory left.
+    fn keep(&mut self, alloc: Global, cars: &[TurnOf]) -> Result<(), AllocError>
         requires { CanTake self.old cars.now }
-        ensures { IfOk result (λ next. HasTakenIn self.old self.new next.items cars.now) }
+        ensures { OnOk result (HasKept self.old self.new cars.now) }
     {
         put_turn(&mut self.pool, alloc, cars)?;
-        improve(&mut self.sheet, alloc, &self.prices, cars)?;
-        let step = step_after(self.step, self.turns.len());
-        let next = prices_after(alloc, &self.prices, cars, step)?;
-        Ok(next)
-    }
-
-    /// Puts the turn at the present prices behind the others, and goes on to the next prices. It fails only
-    /// where there is no memory left.
-    fn push_turn(&mut self, next: Vec<Price>, cars: Vec<TurnOf>) -> Result<(), AllocError>
-        ensures start { self.new.start.now ≡ self.old.start.now }
-        ensures pool { self.new.pool ≡ self.old.pool }
-        ensures sheet { self.new.sheet ≡ self.old.sheet }
-        ensures step { self.new.step ≡ self.old.step }
-        ensures prices { OnOk result (self.new.prices.items ≡ next.items) }
-        ensures turns { OnOk result
-            (self.new.turns.items ≡ self.old.turns.items ++ turn_with self.old.prices.items cars.items ∷ []) }
-    {
-        let prices = Items::from_vec(replace(&mut self.prices, next));
-        let cars = Items::from_vec(cars);
-        self.turns.push(Turn { prices, cars })?;
+        improve(&mut self.sheet, alloc, &self.series.prices, cars)?;
         Ok(())
     }
 
-    /// Takes in the pricings of all cars at the present prices. It fails only where there is no memory left.
+    /// Takes in the pricings of all cars at the present prices, and goes on to the next ones. It fails only
+    /// where there is no memory left.
     fn take(&mut self, alloc: Global, cars: Vec<TurnOf>) -> Result<(), AllocError>
         requires { CanTake self.old cars.items }
         ensures { OnOk result (HasTaken self.old self.new cars.items) }
     {
-        let next = self.take_in(alloc, &cars)?;
-        self.push_turn(next, cars)?;
+        self.keep(alloc, &cars)?;
+        self.series.push(alloc, cars)?;
         Ok(())
     }
 
@@ -189,60 +160,60 @@ impl<'a> Series<'a> {
         &mut self,
         runtime: &Runtime<C, G>,
         pricer: &P,
-        node: &Node,
-        most_tours: u64,
+        root: &Node,
+        limits: Limits,
         desks: &mut [P::Desk],
     ) -> Result<(), Interruption>
         requires accepted { IsAccepted (P.snapshot pricer.now) }
-        requires series { (first : PriceSheet) × IsSeries (P.snapshot pricer.now) most_tours first self.old }
-        requires node { node.now ≡ root_of (P.snapshot pricer.now) }
+        requires kept { (first : PriceSheet)
+            × AreKept (P.snapshot pricer.now) limits.most_tours first self.old }
+        requires root { root.now ≡ root_of (P.snapshot pricer.now) }
         requires is_node { IsNodeOf (P.snapshot pricer.now) (root_of (P.snapshot pricer.now)) }
-        requires few { length self.old.turns.items < MOST_ROUNDS }
-        requires most_tours { (1 ≤ most_tours) × (most_tours ≤ 10 ^ 18) }
+        requires few { length self.old.series.turns.items < MOST_ROUNDS }
         requires desks { Serving (P.owns pricer.now) desks.old }
-        ensures series { OnOk result ((first : PriceSheet)
-            → IsSeries (P.snapshot pricer.now) most_tours first self.old
-            → IsSeries (P.snapshot pricer.now) most_tours first self.new) }
-        ensures turns { OnOk result (length self.new.turns.items ≡ length self.old.turns.items + 1) }
+        ensures kept { OnOk result ((first : PriceSheet)
+            → AreKept (P.snapshot pricer.now) limits.most_tours first self.old
+            → AreKept (P.snapshot pricer.now) limits.most_tours first self.new) }
+        ensures turns { OnOk result
+            (length self.new.series.turns.items ≡ length self.old.series.turns.items + 1) }
         ensures start { OnOk result (self.new.start.now ≡ self.old.start.now) }
         ensures goes_on { G.never_stops runtime.now.gate.now
             → IsOkUnless result OutOfMemory }
         ensures desks { OnOk result (Serving (P.owns pricer.now) desks.new) }
     {
-        let cars = self.price(runtime, pricer, node, most_tours, desks)?;
+        let cars = self.price(runtime, pricer, root, limits, desks)?;
         self.take(runtime.alloc, cars)?;
         Ok(())
     }
 
-    /// This many turns, one after another. It fails only where there is no memory left, or where they were told
-    /// to stop.
+    /// As many turns as the limits have rounds, one after another. It fails only where there is no memory
+    /// left, or where they were told to stop.
     pub(crate) fn run<P: Pricer, C: PricingCrew<P>, G: Gate>(
         &mut self,
         runtime: &Runtime<C, G>,
         pricer: &P,
-        node: &Node,
-        rounds: u32,
-        most_tours: u64,
+        root: &Node,
+        limits: Limits,
         desks: &mut [P::Desk],
     ) -> Result<(), Interruption>
         requires accepted { IsAccepted (P.snapshot pricer.now) }
-        requires series { (first : PriceSheet) × IsSeries (P.snapshot pricer.now) most_tours first self.old }
-        requires turns { self.old.turns.items ≡ [] }
-        requires node { node.now ≡ root_of (P.snapshot pricer.now) }
+        requires kept { (first : PriceSheet)
+            × AreKept (P.snapshot pricer.now) limits.most_tours first self.old }
+        requires turns { self.old.series.turns.items ≡ [] }
+        requires root { root.now ≡ root_of (P.snapshot pricer.now) }
         requires is_node { IsNodeOf (P.snapshot pricer.now) (root_of (P.snapshot pricer.now)) }
-        requires rounds { rounds ≤ MOST_ROUNDS }
-        requires most_tours { (1 ≤ most_tours) × (most_tours ≤ 10 ^ 18) }
+        requires rounds { limits.rounds ≤ MOST_ROUNDS }
         requires desks { Serving (P.owns pricer.now) desks.old }
-        ensures series { OnOk result ((first : PriceSheet)
-            → IsSeries (P.snapshot pricer.now) most_tours first self.old
-            → IsSeries (P.snapshot pricer.now) most_tours first self.new) }
-        ensures turns { OnOk result (length self.new.turns.items ≡ rounds) }
+        ensures kept { OnOk result ((first : PriceSheet)
+            → AreKept (P.snapshot pricer.now) limits.most_tours first self.old
+            → AreKept (P.snapshot pricer.now) limits.most_tours first self.new) }
+        ensures turns { OnOk result (length self.new.series.turns.items ≡ limits.rounds) }
         ensures start { OnOk result (self.new.start.now ≡ self.old.start.now) }
         ensures goes_on { G.never_stops runtime.now.gate.now
             → IsOkUnless result OutOfMemory }
     {
-        for _turn in 0..rounds {
-            self.turn(runtime, pricer, node, most_tours, desks)?;
+        for _turn in 0..limits.rounds() {
+            self.turn(runtime, pricer, root, limits, desks)?;
         }
         Ok(())
     }

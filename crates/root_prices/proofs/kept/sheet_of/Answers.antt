@@ -4,7 +4,7 @@ use Rattle.std.proofs.lemmas.List.{length-map}
 use Rattle.assign_branch.specs.Pricings.{IsWorthSize}
 use Rattle.search_tree.specs.Sheets.{turn_worth}
 use Rattle.search_tree.proofs.WorthLemmas.{taken_at}
-use Rattle.root_prices.proofs.series.sheet_of.Goals as goal
+use Rattle.root_prices.proofs.kept.sheet_of.Goals as goal
 
 pub new-requires-clause-sizes : goal.new-requires-clause-sizes
 new-requires-clause-sizes c k lt =
