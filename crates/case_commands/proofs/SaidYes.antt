@@ -179,11 +179,10 @@ behind_input input a b c = ap (λ (x : List ℕ). x ++ c) (append_assoc input a 
 pub said_yes : (options : SolveOptions) (s : Snapshot) → IsAccepted s → (stated : Stated) (tree : List Twig) (turns : List Turn) (why : StopReason)
     → IsSolveAnswer s options.limits.rounds options.limits.most_tours stated.plan stated.cost stated.bound tree turns why
     → (bound : ℕ) (certificate : List Twig) → IsPrinted options s stated tree bound certificate → All IsSizedTwig certificate
-    → length certificate ≤ length tree
     → (input text : List ℕ) → IsCaseText input s → CanBeChecked options input → (solved : Bool)
     → text ≡ answer_text s (record { plan = stated.plan; cost = stated.cost; bound = bound }) ++ certificate_part options s certificate
     ++ closing_line s (ending_of why options.claims solved) → IsSaidYes (input ++ text) s
-said_yes options s accepted stated tree turns why answer bound certificate printed sized shorter input text case can solved is =
+said_yes options s accepted stated tree turns why answer bound certificate printed sized input text case can solved is =
     let certified = printed.certified can.certificate in
     let shown : Stated = record { plan = stated.plan; cost = stated.cost; bound = bound } in
     let closing = closing_line s (ending_of why options.claims solved) in
@@ -192,6 +191,7 @@ said_yes options s accepted stated tree turns why answer bound certificate print
     let one : input ++ answer_text s shown ++ cert_text s certificate ++ closing ≡ input ++ text =
     behind_input input (answer_text s shown) (cert_text s certificate) closing ∙ sym (ap (λ (x : List ℕ). input ++ x) there) in
     let twigs = answer.twigs in
+    let shorter = certified.short in
     let rounds = can.rounds in
     let low = bound_low s options.limits.rounds options.limits.most_tours stated.plan stated.cost stated.bound tree turns why answer in
     let lower = certified.low in
@@ -205,11 +205,10 @@ said_yes options s accepted stated tree turns why answer bound certificate print
 pub said_yes_as : (options : SolveOptions) (s : Snapshot) → IsAccepted s → (stated : Stated) (tree : List Twig) (turns : List Turn) (why : StopReason)
     → IsSolveAnswer s options.limits.rounds options.limits.most_tours stated.plan stated.cost stated.bound tree turns why
     → (bound : ℕ) (certificate : List Twig) → IsPrinted options s stated tree bound certificate → All IsSizedTwig certificate
-    → length certificate ≤ length tree
     → (input text : List ℕ) → IsCaseText input s → CanBeChecked options input → (solved : Bool) (end : Ending) → end ≡ ending_of why options.claims solved
     → text ≡ answer_text s (record { plan = stated.plan; cost = stated.cost; bound = bound }) ++ certificate_part options s certificate ++ closing_line s end
     → IsSaidYes (input ++ text) s
-said_yes_as options s accepted stated tree turns why answer bound certificate printed sized shorter input text case can solved end end_is is =
-    said_yes options s accepted stated tree turns why answer bound certificate printed sized shorter input text case can solved
+said_yes_as options s accepted stated tree turns why answer bound certificate printed sized input text case can solved end end_is is =
+    said_yes options s accepted stated tree turns why answer bound certificate printed sized input text case can solved
     (is ∙ ap (λ (e : Ending). answer_text s (record { plan = stated.plan; cost = stated.cost; bound = bound }) ++ certificate_part options s certificate
     ++ closing_line s e) end_is)

@@ -4,13 +4,14 @@ use Rattle.std.specs.Prelude.{◌⊎◌, Option}
 use Rattle.std.proofs.lemmas.Bool.{eqb-true}
 use Rattle.elevator_model.specs.declared.Stop.{Stop}
 use Rattle.elevator_model.specs.Snapshot.{Snapshot, IsAccepted, car_count}
-use Rattle.elevator_model.specs.Plans.{IsOptimal, plan_cost_of}
+use Rattle.elevator_model.specs.Plans.{IsBound, IsOptimal, plan_cost_of}
 use Rattle.search_model.specs.declared.Twig.{Twig}
 use Rattle.search_model.specs.declared.Turn.{Turn}
 use Rattle.search_model.specs.declared.StopReason.{StopReason}
 use Rattle.search_model.specs.declared.StopReason.TheVariants.{Solved, Rounds, Moves, Told}
 use Rattle.search_model.specs.Solving.{IsSolveAnswer, IsReason}
 use Rattle.search_model.specs.Certificates.{Proves}
+use Rattle.search_model.specs.Verdicts.{rounds_enough, tours_enough}
 use Rattle.search_model.proofs.TreeLemmas.{proves-bound}
 use Rattle.call_state.proofs.PossibleLemmas.{most_cars-le}
 use Rattle.search_model.specs.declared.Stated.{Stated}
@@ -52,9 +53,15 @@ best_plan s plan cost bound tree accepted proves same =
 
 -- so is that of a search that is done
 pub optimal : (s : Snapshot) (rounds most_tours : ℕ) (plan : List (List Stop)) (cost bound : ℕ) (tree : List Twig) (turns : List Turn) (why : StopReason)
-    → IsAccepted s → IsSolveAnswer s rounds most_tours plan cost bound tree turns why → (status : Status) → status ≡ status_of why → status ≡ Done → IsOptimal s plan
+    → IsAccepted s → IsSolveAnswer s rounds most_tours plan cost bound tree turns why → (status : Status) → status ≡ status_of why → status ≡ Done
+    → IsOptimal s plan
 optimal s rounds most_tours plan cost bound tree turns why accepted answer status is done =
     best_plan s plan cost bound tree accepted answer.proves (cost_is_bound s rounds most_tours cost bound tree why (sym is ∙ done) answer.reason)
+
+-- and no plan costs less than its bound
+pub least_bound : (s : Snapshot) (rounds most_tours : ℕ) (plan : List (List Stop)) (cost bound : ℕ) (tree : List Twig) (turns : List Turn)
+    (why : StopReason) → IsAccepted s → IsSolveAnswer s rounds most_tours plan cost bound tree turns why → IsBound s bound
+least_bound s rounds most_tours plan cost bound tree turns why accepted answer = proves-bound s plan cost bound tree (cars-le s accepted) answer.proves
 
 -- what is done is solved
 solved_where_done : (why : StopReason) (limit : ℕ) (solved : Bool) → status_of_ending (ending_of why limit solved) ≡ Done → solved ≡ true
@@ -72,7 +79,8 @@ printed_low options s stated tree bound certificate printed false e = (printed.c
 
 module _ (options : SolveOptions) (s : Snapshot) (stated : Stated) (tree : List Twig) (turns : List Turn) (why : StopReason) (accepted : IsAccepted s)
     (answer : IsSolveAnswer s options.limits.rounds options.limits.most_tours stated.plan stated.cost stated.bound tree turns why)
-    (bound : ℕ) (certificate : List Twig) (printed : IsPrinted options s stated tree bound certificate) where
+    (enough : rounds_enough s ≤ options.limits.rounds → tours_enough s ≤ options.limits.most_tours → why ≡ Solved) (bound : ℕ) (certificate : List Twig)
+    (printed : IsPrinted options s stated tree bound certificate) where
   abbrev shown : Stated
   shown = record { plan = stated.plan; cost = stated.cost; bound = bound }
 
@@ -86,6 +94,13 @@ module _ (options : SolveOptions) (s : Snapshot) (stated : Stated) (tree : List 
       let lower = printed_low options s stated tree bound certificate printed options.brief refl in
       best_plan s stated.plan stated.cost stated.bound tree accepted answer.proves (omega (arith, low, lower, same))
 
+  -- and no plan costs less than what is printed
+  least : IsBound s bound
+  least other feasible =
+      let lower = printed_low options s stated tree bound certificate printed options.brief refl in
+      let most = proves-bound s stated.plan stated.cost stated.bound tree (cars-le s accepted) answer.proves other feasible in
+      omega (arith, lower, most)
+
   pub is_solution : (end : Ending) (status : Status) (text : List ℕ) → end ≡ ending → status ≡ status_of_ending end
       → text ≡ answer_text s shown ++ certificate_part options s certificate ++ closing_line s end → IsSolution options s status text
   is_solution end status text end_is is written =
@@ -95,6 +110,7 @@ module _ (options : SolveOptions) (s : Snapshot) (stated : Stated) (tree : List 
         turns = turns;
         why = why;
         answer = answer;
+        enough = enough;
         bound = bound;
         certificate = certificate;
         printed = printed;
@@ -103,6 +119,7 @@ module _ (options : SolveOptions) (s : Snapshot) (stated : Stated) (tree : List 
         status_is = is;
         optimal = λ done.
             best (eqb-true stated.cost bound (solved_where_done why options.claims (stated.cost == bound) (ap status_of_ending (sym end_is) ∙ sym is ∙ done)));
+        least = least;
         is_text = written;
       }
 

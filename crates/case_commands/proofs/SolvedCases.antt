@@ -19,7 +19,7 @@ use Rattle.command_ends.specs.declared.status.Status.TheVariants.{Done, Stopped,
 use Rattle.command_ends.specs.Ends.{Streams, Ends, Puts}
 use Rattle.command_ends.proofs.EndLemmas.{ends_either}
 use Rattle.case_commands.specs.MakeOutcome.{IsCaseOf, IsCaseSolved, IsSolvedCase, SolvedCaseDue, run_text, status_of}
-use Rattle.case_commands.proofs.Solutions.{optimal}
+use Rattle.case_commands.proofs.Solutions.{least_bound, optimal}
 
 -- ---- the number and the sizes have one case
 
@@ -73,6 +73,7 @@ module _ (options : RunOptions) (s : Snapshot) (plan : List (List Stop)) (cost b
     done = done_at s options.limits.rounds options.limits.most_tours cost bound tree status why is answer.reason;
     stopped = stopped_at s options.limits.rounds options.limits.most_tours cost bound tree status why is answer.reason;
     optimal = optimal s options.limits.rounds options.limits.most_tours plan cost bound tree turns why accepted answer status is;
+    least = least_bound s options.limits.rounds options.limits.most_tours plan cost bound tree turns why accepted answer;
     is_text = written;
   }
 

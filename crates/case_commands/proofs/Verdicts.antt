@@ -51,6 +51,7 @@ verdict_due left left' checked is ended status text of_verdict written =
     let stated = is.stated in
     let verdict = verdict_of s stated.plan stated.cost stated.bound is.tree in
     let says : status ≡ status_of_verdict verdict = of_verdict ∙ ap status_of_verdict is.verdict in
+    let means = verdict_holds s stated.plan stated.cost stated.bound is.tree is.accepted is.cars is.whole in
     record {
       snapshot = s;
       stated = stated;
@@ -62,7 +63,10 @@ verdict_due left left' checked is ended status text of_verdict written =
       status_is = says;
       is_text = written ∙ ap (λ (n : ℕ). verdict_text s n checked.bound checked.verdict) is.cost
           ∙ ap (λ (n : ℕ). verdict_text s stated.cost n checked.verdict) is.bound ∙ ap (verdict_text s stated.cost stated.bound) is.verdict;
-      proves = λ done. (verdict_holds s stated.plan stated.cost stated.bound is.tree is.accepted is.cars is.whole).proof (yes_by verdict (sym says ∙ done));
+      yes = (
+        λ done. record { proves = means.proof (yes_by verdict (sym says ∙ done)); claims = means.claims (yes_by verdict (sym says ∙ done)) },
+        λ proved. says ∙ ap status_of_verdict (means.yes proved.proves proved.claims),
+      );
       bound = λ done. (yes_holds s stated.plan stated.cost stated.bound is.tree is.accepted is.cars is.whole (yes_by verdict (sym says ∙ done))).least;
     }
 

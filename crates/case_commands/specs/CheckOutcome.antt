@@ -1,5 +1,5 @@
 -- What the command `check` leaves: what was read and written, and why it ended.
-use Rattle.std.specs.Prelude.{◌≡◌, ℕ, ◌⊎◌, List, All, Option, Some, option_map}
+use Rattle.std.specs.Prelude.{◌≡◌, ◌↔◌, ℕ, ◌⊎◌, List, All, Option, Some, option_map}
 use Rattle.std.specs.Io.KnownBytes.{IsAtEnd}
 use Rattle.elevator_model.specs.Snapshot.{Snapshot, IsAccepted}
 use Rattle.elevator_model.specs.Plans.{IsBound}
@@ -13,8 +13,8 @@ use Rattle.search_model.specs.declared.Stated.{Stated}
 use Rattle.search_model.specs.declared.Verdict.{Verdict}
 use Rattle.search_model.specs.declared.Verdict.TheVariants.{Yes, No}
 use Rattle.search_model.specs.declared.Twig.{Twig}
-use Rattle.search_model.specs.Certificates.{Proves}
-use Rattle.search_model.specs.Verdicts.{verdict_of}
+use Rattle.search_model.specs.Certificates.{Placed, Proves, placed_twigs}
+use Rattle.search_model.specs.Verdicts.{FitsClaims, verdict_of}
 use Rattle.byte_streams.specs.Streams.{Rose}
 use Rattle.command_ends.specs.declared.status.Status.{Status}
 use Rattle.command_ends.specs.declared.status.Status.TheVariants.{Done, Words, Stopped, Refused, Input, Read, Write, Memory}
@@ -24,8 +24,14 @@ abbrev pub status_of_verdict : Verdict → Status
 status_of_verdict Yes = Done
 status_of_verdict (No reason) = Refused
 
+-- the tree proves the plan, its cost and the bound, and no kept list is longer than its claim
+pub record IsProvedInClaims (s : Snapshot) (stated : Stated) (tree : List Twig) : Type 0 where
+  pub proves : Proves s stated.plan stated.cost stated.bound tree
+  pub claims : All (λ (p : Placed). FitsClaims s p.place p.twig) (placed_twigs s tree)
+
 -- The verdict is due where the whole input was read and is the text of an accepted snapshot, an answer to it and a
--- certificate. Where it is yes, the plan is feasible and has its cost, and no feasible plan costs less than the bound.
+-- certificate. It is yes exactly where the tree proves the plan, which is then feasible, its cost and the bound, within the
+-- claims; and then no feasible plan costs less than the bound.
 pub record VerdictIsDue (left left' : Option (List ℕ)) (status : Status) (text : List ℕ) : Type 0 where
   pub snapshot : Snapshot
   pub stated : Stated
@@ -35,7 +41,7 @@ pub record VerdictIsDue (left left' : Option (List ℕ)) (status : Status) (text
   pub ended : IsAtEnd left'
   pub status_is : status ≡ status_of_verdict (verdict_of snapshot stated.plan stated.cost stated.bound tree)
   pub is_text : text ≡ verdict_text snapshot stated.cost stated.bound (verdict_of snapshot stated.plan stated.cost stated.bound tree)
-  pub proves : status ≡ Done → Proves snapshot stated.plan stated.cost stated.bound tree
+  pub yes : (status ≡ Done) ↔ IsProvedInClaims snapshot stated tree
   pub bound : status ≡ Done → IsBound snapshot stated.bound
 
 -- The refusal line is due where the input is no such text, with what is wrong with it, and where the end of the line that

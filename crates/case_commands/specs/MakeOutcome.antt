@@ -2,7 +2,7 @@
 use Rattle.std.specs.Prelude.{◌≡◌, ℕ, ◌<◌, ◌≤◌, ◌⊎◌, ◌↔◌, List, [], ◌∷◌, ◌++◌, codes}
 use Rattle.elevator_model.specs.declared.Stop.{Stop}
 use Rattle.elevator_model.specs.Snapshot.{Snapshot, IsAccepted}
-use Rattle.elevator_model.specs.Plans.{IsOptimal}
+use Rattle.elevator_model.specs.Plans.{IsBound, IsOptimal}
 use Rattle.lift_text.specs.Text.{line}
 use Rattle.case_text.specs.CaseTexts.{IsCaseText, case_text}
 use Rattle.search_model.specs.declared.Twig.{Twig}
@@ -74,6 +74,8 @@ pub record IsSolvedCase (options : RunOptions) (status : Status) (text : List �
   pub done : (status ≡ Done) ↔ (cost ≡ bound)
   pub stopped : (status ≡ Stopped) ↔ (bound < cost)
   pub optimal : status ≡ Done → IsOptimal snapshot plan
+  -- no feasible plan costs less than the bound
+  pub least : IsBound snapshot bound
   pub is_text : text ≡ run_text options.sizes cost bound
 
 -- the texts of `make --run`

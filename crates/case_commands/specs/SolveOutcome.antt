@@ -4,7 +4,7 @@ use Rattle.std.specs.Prelude.{if◌then◌else◌}
 use Rattle.std.specs.Io.BufRead.{ends_with_byte}
 use Rattle.std.specs.Io.KnownBytes.{IsAtEnd}
 use Rattle.elevator_model.specs.Snapshot.{Snapshot, IsAccepted, car_count, spec_of}
-use Rattle.elevator_model.specs.Plans.{IsOptimal}
+use Rattle.elevator_model.specs.Plans.{IsBound, IsOptimal}
 use Rattle.lift_text.specs.Reading.{reading, whole_text}
 use Rattle.lift_text.specs.Shows.{FaultShows}
 use Rattle.lift_text.specs.Text.{line}
@@ -79,6 +79,8 @@ pub record IsSolution (options : SolveOptions) (s : Snapshot) (status : Status) 
   pub turns : List Turn
   pub why : StopReason
   pub answer : IsSolveAnswer s options.limits.rounds options.limits.most_tours stated.plan stated.cost stated.bound tree turns why
+  -- where rounds and moves are enough for the snapshot, only claims can stop it
+  pub enough : rounds_enough s ≤ options.limits.rounds → tours_enough s ≤ options.limits.most_tours → why ≡ Solved
   pub bound : ℕ
   pub certificate : List Twig
   pub printed : IsPrinted options s stated tree bound certificate
@@ -86,6 +88,8 @@ pub record IsSolution (options : SolveOptions) (s : Snapshot) (status : Status) 
   pub ending_is : ending ≡ ending_of why options.claims (stated.cost == bound)
   pub status_is : status ≡ status_of_ending ending
   pub optimal : status ≡ Done → IsOptimal s stated.plan
+  -- no feasible plan costs less than the bound that is printed
+  pub least : IsBound s bound
   pub is_text : text ≡ answer_text s (record { plan = stated.plan; cost = stated.cost; bound = bound }) ++ certificate_part options s certificate
       ++ closing_line s ending
 
@@ -143,7 +147,7 @@ SolveDue options left left' Memory text = ⊥
 pub record AreEnough (options : SolveOptions) (s : Snapshot) : Type 0 where
   pub rounds : rounds_enough s ≤ options.limits.rounds
   pub moves : tours_enough s ≤ options.limits.most_tours
-  pub claims : options.brief ≡ false → AreClaimsEnough options.limits.rounds options.claims s
+  pub claims : options.brief ≡ false → AreClaimsEnough options.limits.rounds options.limits.most_tours options.claims s
 
 -- The input is the text of a snapshot, so a plan is answered, unless the source or the sink fails or memory is wanting;
 -- and where the limits are enough for the snapshot, no limit is reached.

@@ -1,5 +1,5 @@
 //! The command `solve`.
-ghost use Rattle.std.specs.Prelude.{◌≡◌, ◌≤◌, ◌++◌, All, List, ℕ, Some, IfErr, IfOk, OnOk, IsErrOf, length};
+ghost use Rattle.std.specs.Prelude.{◌≡◌, ◌≤◌, ◌++◌, All, List, ℕ, Some, IfErr, IfOk, OnOk, IsErrOf};
 ghost use Rattle.std.specs.Prelude.{option_map};
 ghost use Rattle.std.specs.Io.KnownBytes.{IsAtEnd};
 ghost use Rattle.byte_streams.specs.Streams.{Rose};
@@ -97,7 +97,6 @@ fn printed<C: CountingCrew, G: Gate>(
         IsPrinted options snapshot.now stated.now tree.twigs claimed.bound claimed.tree.twigs) }
     ensures sized { IfOk result (λ claimed. All IsSizedTwig claimed.tree.twigs) }
     ensures known { IfOk result (λ claimed. AreTwigsKnown snapshot.now claimed.tree.twigs) }
-    ensures short { IfOk result (λ claimed. length claimed.tree.twigs ≤ length tree.twigs) }
 {
     if options.brief {
         return Ok(Claimed {

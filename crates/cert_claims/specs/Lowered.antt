@@ -1,5 +1,5 @@
 -- Leaves that can be lowered to a bound. No public clause cites this module.
-use Rattle.std.specs.Prelude.{◌≡◌, ℕ, ◌≤◌, ◌≤ℤ◌, ◌⊎◌, List, length, All, Option, None, Some, true}
+use Rattle.std.specs.Prelude.{◌≡◌, ℕ, ◌≤◌, ◌≤ℤ◌, List, length, All, Option, None, Some, true}
 use Rattle.elevator_model.specs.Snapshot.{Snapshot}
 use Rattle.search_model.specs.declared.Leaf.{Leaf}
 use Rattle.search_model.specs.declared.Twig.{Twig}
@@ -7,7 +7,7 @@ use Rattle.search_model.specs.declared.Twig.TheVariants.{Split, Leaf as Tip}
 use Rattle.search_model.specs.Certificates.{IsSound, Placed, is_whole, placed_twigs, sum_needed, sum_of_leaf}
 use Rattle.cert_claims.specs.Due.{HasCars, StatesDue, claims_of_tree, most_of_tree}
 use Rattle.cert_claims.specs.Lowering.{GoesBeyond, IsSizedLeaf, IsSizedTwig, lowered_tree}
-use Rattle.cert_claims.specs.Stating.{DifferInClaims, IsLowered, IsResort}
+use Rattle.cert_claims.specs.Stating.{DifferInClaims, IsLesser}
 use Rattle.cert_claims.specs.declared.stating.Claimed.{Claimed}
 use Rattle.cert_claims.specs.declared.stating.LastResort.{LastResort}
 
@@ -56,4 +56,4 @@ pub record IsCut (s : Snapshot) (bound : ℕ) (tree : List Twig) (resort : LastR
   pub certificate : IsCertificate s claimed.bound limit claimed.tree.twigs
   pub low : claimed.bound ≤ bound
   pub cut : claimed.cut ≡ true
-  pub lesser : IsLowered s bound tree resort limit claimed ⊎ IsResort s bound tree resort limit claimed
+  pub lesser : IsLesser s bound tree resort limit claimed.bound claimed.tree.twigs

@@ -34,17 +34,22 @@ pub record IsLastResort (s : Snapshot) (bound : ℕ) (leaf : Leaf) : Type 0 wher
 
 -- Where the claims of the search's tree go past the limit: its tree with worths lowered to the first of the lesser bounds
 -- at which they do not.
-pub record IsLowered (s : Snapshot) (bound : ℕ) (tree : List Twig) (resort : LastResort) (limit : ℕ) (claimed : Claimed) : Type 0 where
+pub record IsLowered (s : Snapshot) (bound : ℕ) (tree : List Twig) (resort : LastResort) (limit lesser : ℕ) (certificate : List Twig) : Type 0 where
   pub place : ℕ
-  pub bound_is : slice_get (lesser_bounds bound resort.bound) place ≡ Some claimed.bound
+  pub bound_is : slice_get (lesser_bounds bound resort.bound) place ≡ Some lesser
   pub before : All (GoesBeyond s limit tree) (take place (lesser_bounds bound resort.bound))
-  pub tree_is : DifferInClaims claimed.tree.twigs (lowered_tree claimed.bound tree)
+  pub tree_is : DifferInClaims certificate (lowered_tree lesser tree)
 
 -- The last resort, where they do at each of these bounds.
-pub record IsResort (s : Snapshot) (bound : ℕ) (tree : List Twig) (resort : LastResort) (limit : ℕ) (claimed : Claimed) : Type 0 where
-  pub bound_is : claimed.bound ≡ resort.bound
+pub record IsResort (s : Snapshot) (bound : ℕ) (tree : List Twig) (resort : LastResort) (limit lesser : ℕ) (certificate : List Twig) : Type 0 where
+  pub bound_is : lesser ≡ resort.bound
   pub before : All (GoesBeyond s limit tree) (lesser_bounds bound resort.bound)
-  pub tree_is : claimed.tree.twigs ≡ Tip resort.leaf ∷ []
+  pub tree_is : certificate ≡ Tip resort.leaf ∷ []
+
+-- What is stated where the claims of the search's tree go past the limit.
+abbrev pub IsLesser : Snapshot → (bound : ℕ) → List Twig → LastResort → (limit lesser : ℕ) → (certificate : List Twig) → Type 0
+IsLesser s bound tree resort limit lesser certificate = IsLowered s bound tree resort limit lesser certificate
+    ⊎ IsResort s bound tree resort limit lesser certificate
 
 -- The tree of a search with the claims that are due; or, where these sum past the limit, another one with the lesser
 -- bound that it proves.
@@ -55,4 +60,4 @@ pub record IsClaimed (s : Snapshot) (stated : Stated) (tree : List Twig) (resort
   pub few : claims_of_tree claimed.tree.twigs ≤ most_of_tree limit claimed.tree.twigs
   pub cut : (claimed.cut ≡ true) ↔ (most_of_tree limit tree < due_of_tree s tree)
   pub whole : claimed.cut ≡ false → (claimed.bound ≡ stated.bound) × DifferInClaims claimed.tree.twigs tree
-  pub lesser : claimed.cut ≡ true → IsLowered s stated.bound tree resort limit claimed ⊎ IsResort s stated.bound tree resort limit claimed
+  pub lesser : claimed.cut ≡ true → IsLesser s stated.bound tree resort limit claimed.bound claimed.tree.twigs

@@ -1,8 +1,9 @@
 -- What the pass over the claims answers of a search's tree.
-use Rattle.std.proofs.Common.{◌≡◌, ℕ, ◌≤◌, Bool, true, false, List, [], ◌∷◌, length, map, refl, sym, ap, ◌∙◌, subst, inl, inr, arith}
+use Rattle.std.proofs.Common.{◌≡◌, ℕ, zero, suc, ◌<◌, ◌≤◌, Bool, true, false, List, [], ◌∷◌, length, map, get_or, refl, sym, ap, ◌∙◌, subst, inl, inr, arith}
 use Rattle.std.specs.Prelude.{All}
 use Rattle.std.proofs.lemmas.Int.{ints}
 use Rattle.std.proofs.lemmas.List.{length-map}
+use Rattle.std.proofs.lemmas.Option.{get_or_from_slice_get, slice_get_within}
 use Rattle.std.proofs.lemmas.List.Elements.{All-nil, All-cons, All-head, All-tail}
 use Rattle.elevator_model.specs.Snapshot.{Snapshot, IsAccepted}
 use Rattle.search_model.specs.declared.WorthOf.{WorthOf}
@@ -18,10 +19,10 @@ use Rattle.snapshot_solver.specs.Starts.{IsStartLeaf}
 use Rattle.cert_text.specs.Trees.{AreTwigsKnown}
 use Rattle.cert_claims.specs.declared.stating.Claimed.{Claimed}
 use Rattle.cert_claims.specs.declared.stating.LastResort.{LastResort}
-use Rattle.cert_claims.specs.Lowering.{IsSizedTwig as HasSizes, lowered_tree, lowered_twig}
+use Rattle.cert_claims.specs.Lowering.{IsSizedTwig as HasSizes, lesser_bounds, lowered_tree, lowered_twig}
 use Rattle.cert_claims.proofs.LoweringLemmas.{worths_below}
 use Rattle.cert_claims.specs.Due.{HasCars, due_of_tree, most_of_tree}
-use Rattle.cert_claims.specs.Stating.{DifferInClaims, IsClaimed, IsLastResort, without_claim, without_claims}
+use Rattle.cert_claims.specs.Stating.{DifferInClaims, IsClaimed, IsLastResort, IsLesser, without_claim, without_claims}
 use Rattle.certified_search.specs.Certified.{IsCertified}
 use Rattle.certified_search.proofs.KnownTrees.{tree_known}
 
@@ -103,37 +104,21 @@ start_is_last s leaf bound is start = record {
 
 -- ---- what the pass answers
 
+-- a lesser bound lies between the least one and the greatest
+lesser_least : (bound least k d : ℕ) → least ≤ bound → k < length (lesser_bounds bound least) → least ≤ get_or (lesser_bounds bound least) k d
+lesser_least bound least zero d le lt = omega arith
+lesser_least bound least (suc zero) d le lt = omega arith
+lesser_least bound least (suc (suc zero)) d le lt = omega arith
+lesser_least bound least (suc (suc (suc k))) d le lt = absurd (omega (arith, lt))
+
 module _ (s : Snapshot) (accepted : IsAccepted s) (stated : Stated) (tree : List Twig) (resort : LastResort) (limit : ℕ) (claimed : Claimed)
     (is : IsClaimed s stated tree resort limit claimed) where
-  pub certified : IsCertified s limit stated tree claimed.bound claimed.tree.twigs
-  certified = record { proves = is.proves; low = is.low; due = is.due; few = is.few; whole = λ few. by_cut claimed.cut refl few }
-    where
-      by_cut : (b : Bool) → claimed.cut ≡ b → due_of_tree s tree ≤ most_of_tree limit tree → (claimed.bound ≡ stated.bound)
-          × DifferInClaims claimed.tree.twigs tree
-      by_cut true e few = absurd (let over = is.cut.0 e in omega (arith, over, few))
-      by_cut false e few = is.whole e
+  -- as many twigs
+  length_as : (other : List Twig) → DifferInClaims claimed.tree.twigs other → length claimed.tree.twigs ≡ length other
+  length_as other differ = sym (length-map claimed.tree.twigs without_claims) ∙ ap (λ (l : List Twig). length l) differ ∙ length-map other without_claims
 
-  module _ (sized : All IsSizedTwig tree) (resort_sized : IsSizedLeaf resort.leaf) (whole : is_whole s tree ≡ true) where
-    -- the same sizes, but for claims
-    sized_as : (other : List Twig) → DifferInClaims claimed.tree.twigs other → All IsSizedTwig other → All IsSizedTwig claimed.tree.twigs
-    sized_as other differ all = tree_back claimed.tree.twigs (subst (All IsSizedTwig) (sym differ) (tree_there other all))
-
-    -- as many twigs
-    length_as : (other : List Twig) → DifferInClaims claimed.tree.twigs other → length claimed.tree.twigs ≡ length other
-    length_as other differ = sym (length-map claimed.tree.twigs without_claims) ∙ ap (λ (l : List Twig). length l) differ ∙ length-map other without_claims
-
-    pub claimed_sized : All IsSizedTwig claimed.tree.twigs
-    claimed_sized = by_cut claimed.cut refl
-      where
-        by_cut : (b : Bool) → claimed.cut ≡ b → All IsSizedTwig claimed.tree.twigs
-        by_cut true e =
-            elim (is.lesser e) [
-              | inl lowered ↦ sized_as (lowered_tree claimed.bound tree) lowered.tree_is (sized_below claimed.bound tree sized)
-              | inr last ↦ subst (All IsSizedTwig) (sym last.tree_is) (All-cons IsSizedTwig (Tip resort.leaf) [] resort_sized (All-nil IsSizedTwig))
-            ]
-        by_cut false e = sized_as tree (is.whole e).1 sized
-
-    pub claimed_short : length claimed.tree.twigs ≤ length tree
+  module _ (whole : is_whole s tree ≡ true) where
+    claimed_short : length claimed.tree.twigs ≤ length tree
     claimed_short = by_cut claimed.cut refl
       where
         some : (twigs : List Twig) → is_whole s twigs ≡ true → 1 ≤ length twigs
@@ -149,6 +134,61 @@ module _ (s : Snapshot) (accepted : IsAccepted s) (stated : Stated) (tree : List
               | inr last ↦ (let one = ap (λ (l : List Twig). length l) last.tree_is in let more = some tree whole in omega (arith, one, more))
             ]
         by_cut false e = (let same = length_as tree (is.whole e).1 in omega (arith, same))
+
+    claimed_least : resort.bound ≤ stated.bound → resort.bound ≤ claimed.bound
+    claimed_least le = by_cut claimed.cut refl
+      where
+        by_cut : (b : Bool) → claimed.cut ≡ b → resort.bound ≤ claimed.bound
+        by_cut true e =
+            elim (is.lesser e) [
+              | inl lowered ↦
+                  (let bounds = lesser_bounds stated.bound resort.bound in
+                  let at = get_or_from_slice_get bounds lowered.place claimed.bound 0 lowered.bound_is in
+                  let low = lesser_least stated.bound resort.bound lowered.place 0 le (slice_get_within bounds lowered.place claimed.bound lowered.bound_is) in
+                  omega (arith, at, low))
+              | inr last ↦ (let same = last.bound_is in omega (arith, same))
+            ]
+        by_cut false e = (let same = (is.whole e).0 in omega (arith, same, le))
+
+    pub certified : resort.bound ≡ floor_of_bound s → IsStartLeaf s resort.leaf → floor_of_bound s ≤ stated.bound
+        → IsCertified s limit stated tree claimed.bound claimed.tree.twigs
+    certified floor start le =
+        record {
+          proves = is.proves;
+          low = is.low;
+          least = (let low = claimed_least (omega (arith, floor, le)) in omega (arith, low, floor));
+          short = claimed_short;
+          due = is.due;
+          few = is.few;
+          whole = λ few. by_cut claimed.cut refl few;
+          cut = λ over. record {
+            leaf = resort.leaf;
+            start = start;
+            lesser = subst (λ (r : LastResort). IsLesser s stated.bound tree r limit claimed.bound claimed.tree.twigs)
+                (λ i. record { leaf = resort.leaf; bound = floor i }) (is.lesser (is.cut.1 over));
+          };
+        }
+      where
+        by_cut : (b : Bool) → claimed.cut ≡ b → due_of_tree s tree ≤ most_of_tree limit tree → (claimed.bound ≡ stated.bound)
+            × DifferInClaims claimed.tree.twigs tree
+        by_cut true e few = absurd (let over = is.cut.0 e in omega (arith, over, few))
+        by_cut false e few = is.whole e
+
+  module _ (sized : All IsSizedTwig tree) (resort_sized : IsSizedLeaf resort.leaf) (whole : is_whole s tree ≡ true) where
+    -- the same sizes, but for claims
+    sized_as : (other : List Twig) → DifferInClaims claimed.tree.twigs other → All IsSizedTwig other → All IsSizedTwig claimed.tree.twigs
+    sized_as other differ all = tree_back claimed.tree.twigs (subst (All IsSizedTwig) (sym differ) (tree_there other all))
+
+    pub claimed_sized : All IsSizedTwig claimed.tree.twigs
+    claimed_sized = by_cut claimed.cut refl
+      where
+        by_cut : (b : Bool) → claimed.cut ≡ b → All IsSizedTwig claimed.tree.twigs
+        by_cut true e =
+            elim (is.lesser e) [
+              | inl lowered ↦ sized_as (lowered_tree claimed.bound tree) lowered.tree_is (sized_below claimed.bound tree sized)
+              | inr last ↦ subst (All IsSizedTwig) (sym last.tree_is) (All-cons IsSizedTwig (Tip resort.leaf) [] resort_sized (All-nil IsSizedTwig))
+            ]
+        by_cut false e = sized_as tree (is.whole e).1 sized
 
     pub claimed_known : AreTwigsKnown s claimed.tree.twigs
     claimed_known = tree_known s accepted claimed.bound claimed.tree.twigs is.proves.whole is.proves.sound claimed_sized

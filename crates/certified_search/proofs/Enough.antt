@@ -6,14 +6,17 @@ use Rattle.std.proofs.Math.Nat.{mul-le-mul_left}
 use Rattle.call_sets.proofs.Sums.{sum_below-each}
 use Rattle.elevator_model.specs.Snapshot.{Snapshot, car_count}
 use Rattle.search_model.specs.declared.Stated.{Stated}
+use Rattle.search_model.specs.declared.StopReason.{StopReason}
+use Rattle.search_model.specs.declared.Turn.{Turn}
 use Rattle.search_model.specs.declared.Twig.{Twig}
 use Rattle.search_model.specs.declared.Twig.TheVariants.{Split, Leaf as Tip}
 use Rattle.search_model.specs.Certificates.{TreePlace, Placed, placed_from, places_after, root_place, price_in, worth_in}
 use Rattle.search_model.specs.Kept.{is_kept}
 use Rattle.search_model.specs.Nodes.{allows, requires_of}
+use Rattle.search_model.specs.Solving.{IsSolveAnswer}
 use Rattle.search_model.specs.Verdicts.{tours_enough}
 use Rattle.search_model.proofs.ManyLemmas.{tested_lists-few}
-use Rattle.cert_claims.specs.Due.{claim_due, due_at, due_of_tree, most_of_tree}
+use Rattle.cert_claims.specs.Due.{claim_due, due_at}
 use Rattle.certified_search.specs.Certified.{AreClaimsEnough, IsCertified}
 
 module _ (s : Snapshot) where
@@ -35,15 +38,17 @@ module _ (s : Snapshot) where
       let most = due_most place twig in
       omega (arith, one, rest, most)
 
--- what a search answers needs no more claims than are enough
-due_enough : (rounds limit : ℕ) (s : Snapshot) (tree : List Twig) → length tree ≤ 8 * rounds + 1 → AreClaimsEnough rounds limit s
-    → due_of_tree s tree ≤ most_of_tree limit tree
-due_enough rounds limit s tree few enough =
+-- As many claims for each car at each leaf as the car can have partial tours are enough for any search within these rounds.
+pub enough_by_tours : (rounds most_tours limit : ℕ) (s : Snapshot) → (8 * rounds + 1) * (car_count s * tours_enough s) ≤ limit
+    → AreClaimsEnough rounds most_tours limit s
+enough_by_tours rounds most_tours limit s many plan cost bound tree turns why answer =
     let due = due_placed s (root_place s ∷ []) tree in
-    let more = mul-le-mul_left (car_count s * tours_enough s) few in
-    omega (arith, due, more, enough)
+    let more = mul-le-mul_left (car_count s * tours_enough s) answer.twigs in
+    omega (arith, due, more, many)
 
--- so its own bound is printed
-pub certified_same : (rounds limit : ℕ) (s : Snapshot) (stated : Stated) (tree : List Twig) (bound : ℕ) (certificate : List Twig)
-    → IsCertified s limit stated tree bound certificate → length tree ≤ 8 * rounds + 1 → AreClaimsEnough rounds limit s → bound ≡ stated.bound
-certified_same rounds limit s stated tree bound certificate certified few enough = (certified.whole (due_enough rounds limit s tree few enough)).0
+-- with claims that are enough the bound of the search is printed
+pub certified_same : (rounds most_tours limit : ℕ) (s : Snapshot) (stated : Stated) (tree : List Twig) (turns : List Turn) (why : StopReason)
+    (bound : ℕ) (certificate : List Twig) → IsSolveAnswer s rounds most_tours stated.plan stated.cost stated.bound tree turns why
+    → IsCertified s limit stated tree bound certificate → AreClaimsEnough rounds most_tours limit s → bound ≡ stated.bound
+certified_same rounds most_tours limit s stated tree turns why bound certificate answer certified enough =
+    (certified.whole (enough stated.plan stated.cost stated.bound tree turns why answer)).0

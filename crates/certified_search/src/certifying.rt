@@ -1,9 +1,10 @@
 //! States the claims of a search's tree.
 
-ghost use Rattle.std.specs.Prelude.{◌≡◌, ◌≤◌, ◌^◌, All, IfOk, length};
+ghost use Rattle.std.specs.Prelude.{◌≡◌, ◌≤◌, ◌^◌, All, IfOk};
 ghost use Rattle.search_model.specs.Certificates.{Proves};
 ghost use Rattle.search_model.specs.Solving.{floor_of_bound};
 ghost use Rattle.search_tree.specs.Sheets.{IsSizedLeaf, IsSizedTwig};
+ghost use Rattle.snapshot_solver.specs.Starts.{IsStartLeaf};
 ghost use Rattle.cert_claims.specs.Stating.{IsLastResort};
 ghost use Rattle.cert_text.specs.Trees.{AreTwigsKnown};
 ghost use Rattle.certified_search.specs.Certified.{IsCertified};
@@ -25,6 +26,7 @@ fn last_resort(alloc: Global, snapshot: &Snapshot, most: u64) -> Result<LastReso
     requires { floor_of_bound snapshot.now ≤ most }
     ensures resort { IfOk result (λ last. IsLastResort snapshot.now last.bound last.leaf) }
     ensures bound { IfOk result (λ last. last.bound ≡ floor_of_bound snapshot.now) }
+    ensures start { IfOk result (λ last. IsStartLeaf snapshot.now last.leaf) }
     ensures sized { IfOk result (λ last. IsSizedLeaf last.leaf) }
 {
     // For the proof: the reader says that the snapshot is accepted, so the leaf's sums are small.
@@ -34,8 +36,8 @@ fn last_resort(alloc: Global, snapshot: &Snapshot, most: u64) -> Result<LastReso
     Ok(LastResort { leaf, bound })
 }
 
-/// The tree of a search with the claims that are due in it, and the bound that it proves, where they sum to no
-/// more than this; else a tree with fewer, and its lesser bound.
+/// The tree of a search with the claims that are due in it, and the bound that it proves, where they sum to
+/// no more than this; else a tree with fewer, and its lesser bound.
 ///
 /// It fails only where there is no memory left.
 pub fn certify<C: CountingCrew, G: Gate>(
@@ -53,7 +55,6 @@ pub fn certify<C: CountingCrew, G: Gate>(
         IsCertified snapshot.now claims stated.now tree.twigs claimed.bound claimed.tree.twigs) }
     ensures sized { IfOk result (λ claimed. All IsSizedTwig claimed.tree.twigs) }
     ensures known { IfOk result (λ claimed. AreTwigsKnown snapshot.now claimed.tree.twigs) }
-    ensures short { IfOk result (λ claimed. length claimed.tree.twigs ≤ length tree.twigs) }
 {
     // For the proof: the reader says that the snapshot is accepted.
     let _calls = snapshot.calls();

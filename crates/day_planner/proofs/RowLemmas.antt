@@ -77,7 +77,8 @@ same-bound : (rounds most_tours : ℕ) (claims : Option ℕ) (s : Snapshot) (sta
 same-bound rounds most_tours None s stated proof row enough = row.written.0
 same-bound rounds most_tours (Some limit) s stated proof row enough =
     let found : Stated = record { plan = stated.plan; cost = stated.cost; bound = row.bound } in
-    certified_same rounds limit s found row.tree stated.bound row.written.certificate row.written.certified row.answer.twigs enough.claims_are
+    certified_same rounds most_tours limit s found row.tree row.turns row.why stated.bound row.written.certificate row.answer row.written.certified
+    enough.claims_are
 
 -- and it is the cost
 pub solved-where-enough : (rounds most_tours : ℕ) (claims : Option ℕ) (s : Snapshot) (stated : Stated) (proof : List ℕ)

@@ -18,7 +18,7 @@ use Rattle.day_simulator.specs.Planning.{IsRightPlan}
 pub record AreEnoughFor (rounds most_tours : ℕ) (claims : Option ℕ) (s : Snapshot) : Type 0 where
   pub rounds_are : rounds_enough s ≤ rounds
   pub most_tours_are : tours_enough s ≤ most_tours
-  pub claims_are : IfSome claims (λ limit. AreClaimsEnough rounds limit s)
+  pub claims_are : IfSome claims (λ limit. AreClaimsEnough rounds most_tours limit s)
 
 -- A plan that a search found with a tree, written as an answer with the certificate that proves the bound that is stated;
 -- that is the bound that was found where the claims of the tree allow it.

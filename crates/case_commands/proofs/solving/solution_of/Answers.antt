@@ -19,8 +19,9 @@ pub returns-clause-solution : goal.returns-clause-solution
 returns-clause-solution g c =
     let f = c.in_ok-found.found in
     let claimed = c.in_ok-claimed.claimed in
-    is_solution c.args.options c.args.snapshot.now f.stated f.tree.twigs f.turns f.why c.calls.ensures.accepted c.in_ok-found.ensures.answer claimed.bound
-    claimed.tree.twigs c.in_ok-claimed.ensures.printed c.of-ending.result c.status.result c.in_ok-text.text.items c.of-ending.ensures c.status.ensures
+    is_solution c.args.options c.args.snapshot.now f.stated f.tree.twigs f.turns f.why c.calls.ensures.accepted c.in_ok-found.ensures.answer
+    c.in_ok-found.ensures.enough claimed.bound claimed.tree.twigs c.in_ok-claimed.ensures.printed c.of-ending.result c.status.result c.in_ok-text.text.items
+    c.of-ending.ensures c.status.ensures
     c.in_ok-text.ensures
 
 pub returns-clause-enough : goal.returns-clause-enough
@@ -36,5 +37,5 @@ returns-clause-checks g c input case can =
     let f = c.in_ok-found.found in
     let claimed = c.in_ok-claimed.claimed in
     said_yes_as c.args.options c.args.snapshot.now c.calls.ensures.accepted f.stated f.tree.twigs f.turns f.why c.in_ok-found.ensures.answer claimed.bound
-    claimed.tree.twigs c.in_ok-claimed.ensures.printed c.in_ok-claimed.ensures.sized c.in_ok-claimed.ensures.short input c.in_ok-text.text.items case can
+    claimed.tree.twigs c.in_ok-claimed.ensures.printed c.in_ok-claimed.ensures.sized input c.in_ok-text.text.items case can
     (f.stated.cost == claimed.bound) c.of-ending.result c.of-ending.ensures c.in_ok-text.ensures
