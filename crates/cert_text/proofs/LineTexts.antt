@@ -1,10 +1,11 @@
 -- The text of a certificate, part by part.
 use Rattle.std.proofs.Common.{◌≡◌, ℕ, List, [], ◌∷◌, ◌++◌, map, sym, ap, ◌∙◌, append_assoc, append-nil, refl}
-use Rattle.std.specs.Prelude.{ℤ, codes, decimal, Result, Ok, Err, OnOk}
+use Rattle.std.specs.Prelude.{ℤ, codes, decimal, Result, Ok, Err, OnOk, OnErr}
 use Rattle.std.specs.List.{flat_map}
 use Rattle.std.specs.Fmt.{signed_decimal}
 use Rattle.std.proofs.lemmas.Grind.{flat_map-append}
 use Rattle.std.proofs.lemmas.List.Folds.{flat_map-map}
+use Rattle.std.proofs.lemmas.List.Prefix.{front_rest}
 use Rattle.call_sets.specs.Counting.{members}
 use Rattle.elevator_model.specs.Snapshot.{Snapshot, spec_of, call_of}
 use Rattle.search_model.specs.declared.PriceOf.{PriceOf}
@@ -15,6 +16,7 @@ use Rattle.lift_text.specs.Text.{word, words, line}
 use Rattle.text_sections.specs.Canonical.{line_text, lines_text}
 use Rattle.text_sections.proofs.CanonicalLemmas.{line_of_numbers}
 use Rattle.cert_text.specs.Texts.{head_words, split_words, leaf_words, price_words, worth_words, end_words, item_lines, twig_lines, cert_lines, cert_text}
+use Rattle.cert_text.specs.Texts.{BeginsWith}
 
 -- ---- lines
 
@@ -125,6 +127,23 @@ wrote_cert s tree old head body new put_head put_body put_end =
 pub ok_then : {X E P Q : Type 0} (answer : Result X E) → OnOk answer P → (P → Q) → OnOk answer Q
 ok_then (Ok x) told more = more told
 ok_then (Err e) told more = tt
+
+pub err_then : {X E P Q : Type 0} (answer : Result X E) → OnErr answer P → (P → Q) → OnErr answer Q
+err_then (Ok x) told more = tt
+err_then (Err e) told more = more told
+
+-- ---- where writing ended early
+
+-- something was written behind what stood before
+pub begins : (old new rest : List ℕ) → new ≡ old ++ rest → BeginsWith new old
+begins old new rest is = is ∙ ap (λ (xs : List ℕ). old ++ xs) (sym (front_rest new old rest is))
+
+-- and then more
+pub begins_behind : (old mid new first rest : List ℕ) → mid ≡ old ++ first → new ≡ mid ++ rest → BeginsWith new old
+begins_behind old mid new first rest one two =
+    begins old new (first ++ rest) (two ∙ ap (λ (xs : List ℕ). xs ++ rest) one ∙ append_assoc old first rest)
+
+-- ---- what is still to come
 
 -- one more is written of those that are still to come
 pub next_written : (w : ℕ → List ℕ) (out new whole : List ℕ) (left rest : List ℕ) (x : ℕ) → out ++ flat_map w left ≡ whole → left ≡ x ∷ rest → new ≡ out ++ w x

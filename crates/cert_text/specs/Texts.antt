@@ -1,5 +1,6 @@
 -- The canonical text of a certificate.
-use Rattle.std.specs.Prelude.{ℕ, List, [], ◌∷◌, ◌++◌, map, decimal, codes}
+use Rattle.std.specs.Prelude.{◌≡◌, ℕ, List, [], ◌∷◌, ◌++◌, map, decimal, codes}
+use Rattle.std.specs.Io.{appended_bytes}
 use Rattle.std.specs.List.{flat_map}
 use Rattle.std.specs.Fmt.{signed_decimal}
 use Rattle.call_sets.specs.Counting.{members}
@@ -48,3 +49,9 @@ cert_lines s tree = head_words ∷ flat_map (twig_lines s) tree ++ end_words ∷
 
 unfoldable pub cert_text : Snapshot → List Twig → List ℕ
 cert_text s tree = lines_text (cert_lines s tree)
+
+-- ---- what stands where writing it ended early
+
+-- the new text has the old one in front
+abbrev pub BeginsWith : (new old : List ℕ) → Type 0
+BeginsWith new old = new ≡ old ++ appended_bytes old new

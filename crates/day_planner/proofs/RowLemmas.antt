@@ -1,5 +1,7 @@
 -- What a search answers is a right plan.
-use Rattle.std.proofs.Common.{◌≡◌, ℕ, ◌≤◌, List, [], Option, Some, None, refl, sym, ◌∙◌, subst}
+use Rattle.std.proofs.Common.{◌≡◌, ℕ, ◌≤◌, List, [], ◌++◌, Option, Some, None, refl, sym, ap, ◌∙◌, subst, append_assoc}
+use Rattle.std.specs.Io.{appended_bytes}
+use Rattle.std.proofs.lemmas.List.Prefix.{front_rest}
 use Rattle.elevator_model.specs.Snapshot.{Snapshot, IsAccepted}
 use Rattle.search_model.specs.declared.Stated.{Stated}
 use Rattle.search_model.specs.declared.Twig.{Twig}
@@ -11,6 +13,8 @@ use Rattle.search_model.specs.Solving.{IsReason, IsSolveAnswer}
 use Rattle.search_model.specs.Verdicts.{rounds_enough, tours_enough}
 use Rattle.search_model.proofs.TreeLemmas.{proves-bound}
 use Rattle.tour_cost.proofs.Served.{cars-le}
+use Rattle.answer_text.specs.Texts.{answer_text}
+use Rattle.cert_text.specs.Texts.{cert_text}
 use Rattle.day_simulator.specs.Planning.{IsRightPlan}
 use Rattle.certified_search.proofs.Enough.{certified_same}
 use Rattle.day_planner.specs.SolvedRows.{AreEnoughFor, IsCertifiedRow, IsSolvedPlan}
@@ -64,6 +68,14 @@ module _ (rounds most_tours : ℕ) (s : Snapshot) (accepted : IsAccepted s) (fou
       λ i. record { plan = sym plan i; cost = sym cost i; bound = stated.bound } in
       subst (λ (x : Stated). IsSolvedPlan rounds most_tours (Some limit) s x proof) same
       (certified-row limit stated.bound proof (subst (λ (x : Stated). IsCertifiedRow s limit found tree x proof) (sym same) written))
+
+-- an answer and its certificate, as they were appended
+pub certified-text : (s : Snapshot) (stated : Stated) (certificate : List Twig) (old first new : List ℕ) → first ≡ old ++ answer_text s stated
+    → new ≡ first ++ cert_text s certificate → appended_bytes old new ≡ answer_text s stated ++ cert_text s certificate
+certified-text s stated certificate old first new one two =
+    let answer = answer_text s stated in
+    let cert = cert_text s certificate in
+    front_rest new old (answer ++ cert) (two ∙ ap (λ (xs : List ℕ). xs ++ cert) one ∙ append_assoc old answer cert)
 
 -- no limit is none
 pub none-there : (claims : Option ℕ) → ((most : ℕ) → claims ≡ Some most → ⊥) → claims ≡ None

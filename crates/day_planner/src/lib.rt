@@ -6,7 +6,7 @@
 //!   bound, as a search of it within its limits answers them, for 1 to 16 workers and whatever plan held before
 //!   (`IsSolvedRow`, in `specs/SolvedRows.antt`): the plan is feasible, no feasible plan's cost is below the
 //!   bound, and where the limits are enough for the snapshot the cost is the bound. Where certificates are
-//!   wanted it writes the plan as an answer with the certificate that proves the bound, whose claims are within
+//!   wanted it appends the plan as an answer with the certificate that proves the bound, whose claims are within
 //!   a limit; the bound is the search's own where its claims are (`IsCertifiedRow`). Or it is out of memory.
 //!
 //! Moments are in ms, costs in cost units.

@@ -7,8 +7,8 @@ use crate::planning::plan_within;
 use byte_streams::Gate;
 use call_state::Snapshot;
 use cert_claims::CountingCrew;
-use day_simulator::{Plan, Planned, Planner};
-use search_model::Limits;
+use day_simulator::{Plan, Planner};
+use search_model::{Limits, Stated};
 use snapshot_solver::SearchCrew;
 use std::alloc::AllocError;
 use work_fan::Runtime;
@@ -49,7 +49,12 @@ impl<'a, C: SearchCrew + CountingCrew, G: Gate> Planner for Searches<'a, C, G> {
     ghost right = { λ it s held stated proof.
         IsSolvedRow it.limits.rounds it.limits.most_tours it.claims s held stated proof };
 
-    fn plan(&self, snapshot: &Snapshot, _held: &Plan) -> Result<Planned, AllocError> {
-        plan_within(self.runtime, self.limits, self.claims, snapshot)
+    fn plan(
+        &self,
+        snapshot: &Snapshot,
+        _held: &Plan,
+        log: &mut Vec<u8>,
+    ) -> Result<Stated, AllocError> {
+        plan_within(self.runtime, self.limits, self.claims, snapshot, log)
     }
 }

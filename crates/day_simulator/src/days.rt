@@ -2,6 +2,7 @@
 
 ghost use Rattle.std.specs.Prelude.{◌≡◌, ◌<◌, ◌≤◌, ◌+◌, ◌++◌, ◌∷◌, ◌^◌, [], None, Some, IsTrue, All, length};
 ghost use Rattle.std.specs.Prelude.{nat_lt, if◌then◌else◌, IfOk, OnOk, OnErr};
+ghost use Rattle.std.specs.Io.{appended_bytes};
 ghost use Rattle.elevator_model.specs.Plans.{IsFeasiblePlan};
 ghost use Rattle.search_model.specs.Advancing.{advanced, events_by};
 ghost use Rattle.search_model.specs.Days.{opening_day, day_after_accepted, is_row, call_of_row, with_call};
@@ -14,15 +15,15 @@ ghost use Rattle.day_text.specs.LogTexts.{end_text};
 ghost use Rattle.day_laws.specs.Arrivals.{IsBrought};
 ghost use Rattle.day_laws.specs.Standing.{IdsRise, IsEarly, IsStanding, row_number};
 ghost use Rattle.day_simulator.specs.Planning.{PlannerLaw};
-ghost use Rattle.day_simulator.specs.Rows.{IsRowDone, IsRefused};
+ghost use Rattle.day_simulator.specs.Rows.{IsRowDone, IsRefused, IsRowWritten};
 
 use crate::logged::{LoggedCall, add_call, delivered_count, note_all, served_by};
 use crate::planners::Planner;
 use call_state::Snapshot;
 use day_laws::world_of_row;
 use day_state::World;
-use day_text::{GoodRow, add_accepted, put_end, put_refused, read_row};
-use search_model::{Event, RowFault, Served};
+use day_text::{GoodRow, add_accepted, add_plan, put_end, put_refused, read_row};
+use search_model::{Event, RowFault, Served, Stated};
 use std::alloc::{AllocError, Global};
 use std::marker::Model;
 use std::mem;
@@ -42,6 +43,31 @@ fn unsolved_by(cost: u64, bound: u64) -> u32
     ensures { result ≡ (if nat_lt bound cost then 1 else 0) }
 {
     if bound < cost { 1 } else { 0 }
+}
+
+/// Asks for a plan in this world, which has taken the call of a row and has the plan that held until then, and
+/// appends the lines of the row. It fails only where there is no memory left: then a beginning of them may be
+/// appended.
+fn write_accepted<P: Planner>(
+    planner: &P,
+    number: u32,
+    events: &[Event],
+    world: &World,
+    out: &mut Vec<u8>,
+) -> Result<Stated, AllocError>
+    requires sound { PlannerLaw (P.right planner.now) }
+    ensures row { IfOk result (λ stated. IsRowWritten (P.right planner.now) world.now number events.now
+        stated out.old.items out.new.items) }
+    ensures kept { OnErr result
+        (out.new.items ≡ out.old.items ++ appended_bytes out.old.items out.new.items) }
+{
+    add_accepted(number, events, out)?;
+    let place = out.len();
+    let snapshot = world.snapshot();
+    let held = world.plan();
+    let stated = planner.plan(snapshot, held, out)?;
+    add_plan(snapshot, &stated, place, out)?;
+    Ok(stated)
 }
 
 /// Swaps this world with the present one, and notes what happened until then and the call that came. It fails
@@ -206,7 +232,6 @@ impl Day {
     /// then, and goes on with it.
     fn accept<P: Planner>(
         &mut self,
-        alloc: Global,
         planner: &P,
         world: &mut World,
         row: &GoodRow,
@@ -225,19 +250,16 @@ impl Day {
         ensures as_before { OnErr result (self.new ≡ self.old) }
         ensures log_as_before { OnErr result (out.new.items ≡ out.old.items) }
     {
-        let held = world.plan();
-        let planned = planner.plan(world.snapshot(), held)?;
         let before = out.len();
-        add_accepted(
-            alloc,
-            self.number(),
-            events,
-            world.snapshot(),
-            &planned,
-            out,
-        )?;
-        let (cost, bound) = (planned.stated.cost, planned.stated.bound);
-        world.set_plan(planned.stated.plan);
+        let stated = match write_accepted(planner, self.number(), events, world, out) {
+            Ok(stated) => stated,
+            Err(error) => {
+                out.truncate(before);
+                return Err(error);
+            }
+        };
+        let (cost, bound) = (stated.cost, stated.bound);
+        world.set_plan(stated.plan);
         match self.take(world, row, events, cost, bound) {
             Ok(()) => Ok(()),
             Err(error) => {
@@ -282,7 +304,7 @@ impl Day {
     {
         let mut events = Vec::new(alloc);
         match self.brought(alloc, row, &mut events)? {
-            Ok(mut world) => self.accept(alloc, planner, &mut world, row, events.as_slice(), out),
+            Ok(mut world) => self.accept(planner, &mut world, row, events.as_slice(), out),
             Err(fault) => self.refuse(fault, out),
         }
     }

@@ -26,14 +26,15 @@
 //! `IsStanding` is the type's invariant: the plan is feasible, ids rise and are below the number of the next
 //! row, and no accepted call is lost. That this stays so, and that by all events of a day each accepted call
 //! boards once and is delivered once, in time, is proved in `day_laws` for any plans. What may be refused is
-//! tried on a copy of the world (`day_laws::world_of_row`), and a row whose call finds no room takes its text
+//! tried on a copy of the world (`day_laws::world_of_row`), and a row for which memory runs out takes its text
 //! out of the log again; the lines are those of `day_text`. An event finds its call by binary search, since
 //! the calls are in the order of their ids.
 //!
 //! A planner is lent the snapshot with the new call and what is left of the plan that held before it came,
 //! which it may keep or leave. What it answers is a feasible plan of the snapshot with its cost, and a bound
 //! that no feasible plan costs less than, and it fails only where there is no memory left. Whoever calls shows
-//! this of what the planner calls right (`PlannerLaw`).
+//! this of what the planner calls right (`PlannerLaw`). What is printed in place of the plan, as its
+//! certificate, the planner appends to the log itself, so that it is never copied.
 //!
 //! # A day over lines
 //!
@@ -60,7 +61,6 @@ mod text_runs;
 
 pub use call_state::Snapshot;
 pub use day_runs::{Ended, FIRST_LINE, run_day};
-pub use day_text::Planned;
 pub use days::Day;
 pub use elevator_model::Plan;
 pub use planners::Planner;

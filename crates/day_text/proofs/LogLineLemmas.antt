@@ -1,8 +1,9 @@
 -- The lines of a log, part by part.
-use Rattle.std.proofs.Common.{◌≡◌, ◌<◌, ◌+◌, ℕ, zero, suc, List, [], ◌∷◌, ◌++◌, length, take, get_or, refl, sym, ap, ◌∙◌, append_assoc, append-nil}
+use Rattle.std.proofs.Common.{◌≡◌, ◌<◌, ◌≤◌, ◌+◌, ℕ, zero, suc, List, [], ◌∷◌, ◌++◌, length, take, drop, get_or, refl, sym, ap, ◌∙◌, append_assoc, append-nil}
+use Rattle.std.proofs.Common.{arith, drop_at, length-drop, take-append-drop, take_all, take_at}
 use Rattle.std.specs.Prelude.{codes, decimal, cond, is_ok, Result, Ok, Err, OnOk}
 use Rattle.std.specs.List.{flat_map}
-use Rattle.std.proofs.lemmas.List.{take_more}
+use Rattle.std.proofs.lemmas.List.{drop_all, take_more}
 use Rattle.std.proofs.lemmas.List.Concat.{flat_map-append}
 use Rattle.std.proofs.lemmas.List.Folds.{flat_map-map}
 use Rattle.elevator_model.specs.Snapshot.{Snapshot}
@@ -82,25 +83,38 @@ wrote_refused number fault code old first new is one two =
     regroup : (a b c d e : List ℕ) → (a ++ (b ++ c)) ++ ((d ++ e) ++ 10 ∷ []) ≡ a ++ ((b ++ (c ++ (d ++ e))) ++ 10 ∷ [])
     regroup a b c d e = simp append_assoc
 
-pub plan_none : (s : Snapshot) (printed : Stated) (proof old new : List ℕ) → length proof ≡ 0
-    → new ≡ old ++ body_text s printed.plan printed.cost printed.bound → new ≡ old ++ plan_text s printed proof
-plan_none s printed [] old new none wrote = wrote
-plan_none s printed (b ∷ proof) old new none wrote = absurd cc
+-- a proof that is there is what is printed
+plan_there : (s : Snapshot) (printed : Stated) (proof : List ℕ) → 0 < length proof → proof ≡ plan_text s printed proof
+plan_there s printed [] some = absurd (omega (arith, some))
+plan_there s printed (b ∷ proof) some = refl
 
-pub plan_some : (s : Snapshot) (printed : Stated) (proof old new : List ℕ) → (length proof ≡ 0 → ⊥) → new ≡ old ++ proof
-    → new ≡ old ++ plan_text s printed proof
-plan_some s printed [] old new some wrote = absurd (some refl)
-plan_some s printed (b ∷ proof) old new some wrote = wrote
+pub plan_behind : (s : Snapshot) (printed : Stated) (place written : ℕ) (out : List ℕ) → written ≡ length out → place < written
+    → out ≡ take place out ++ plan_text s printed (drop place out)
+plan_behind s printed place written out counted more =
+    let some : 0 < length (drop place out) = omega (arith, length-drop place out, counted, more) in
+    sym (take-append-drop place out) ∙ ap (λ (xs : List ℕ). take place out ++ xs) (plan_there s printed (drop place out) some)
 
-pub wrote_row : (s : Snapshot) (number : ℕ) (events : List Event) (printed : Stated) (proof old first second new : List ℕ)
-    → first ≡ old ++ line_text (accepted_words number) → second ≡ first ++ events_text events → new ≡ second ++ plan_text s printed proof
-    → new ≡ old ++ accepted_text s number events printed proof
+-- none is there, and the plan was written
+pub plan_wanting : (s : Snapshot) (printed : Stated) (place written : ℕ) (old new : List ℕ) → written ≡ length old → written ≤ place
+    → new ≡ old ++ body_text s printed.plan printed.cost printed.bound → new ≡ take place old ++ plan_text s printed (drop place old)
+plan_wanting s printed place written old new counted few wrote =
+    let short : length old ≤ place = omega (arith, counted, few) in
+    wrote ∙ ap (λ (xs : List ℕ). xs ++ body_text s printed.plan printed.cost printed.bound) (sym (take_all place old short))
+    ∙ ap (λ (xs : List ℕ). take place old ++ plan_text s printed xs) (sym (drop_all place old short))
+
+-- the lines of a row, with what stands behind its events before its plan is written there
+pub wrote_row : (s : Snapshot) (number : ℕ) (events : List Event) (printed : Stated) (proof old first second new : List ℕ) (place : ℕ)
+    → first ≡ old ++ (line_text (accepted_words number) ++ events_text events) → second ≡ first ++ proof → place ≡ length first
+    → new ≡ take place second ++ plan_text s printed (drop place second) → new ≡ old ++ accepted_text s number events printed proof
 unfolding accepted_text
-wrote_row s number events printed proof old first second new one two three =
-    three ∙ ap (λ (xs : List ℕ). xs ++ plan_text s printed proof) (two ∙ ap (λ (xs : List ℕ). xs ++ events_text events) one)
+wrote_row s number events printed proof old first second new place one two counted three =
+    let front : take place second ≡ first = ap (take place) two ∙ take_at first proof place (sym counted) in
+    let behind : drop place second ≡ proof = ap (drop place) two ∙ drop_at first proof place (sym counted) in
+    three ∙ ap (λ (xs : List ℕ). xs ++ plan_text s printed (drop place second)) (front ∙ one)
+    ∙ ap (λ (xs : List ℕ). (old ++ (line_text (accepted_words number) ++ events_text events)) ++ plan_text s printed xs) behind
     ∙ regroup old (line_text (accepted_words number)) (events_text events) (plan_text s printed proof)
   where
-    regroup : (a b c d : List ℕ) → ((a ++ b) ++ c) ++ d ≡ a ++ (b ++ (c ++ d))
+    regroup : (a b c d : List ℕ) → (a ++ (b ++ c)) ++ d ≡ a ++ (b ++ (c ++ d))
     regroup a b c d = simp append_assoc
 
 -- ---- the end

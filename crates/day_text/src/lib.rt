@@ -17,9 +17,9 @@
 //!   of memory. `GoodRow::call` is the call that a row brings.
 //! - `record_of` gives the fields of a line as they stand, and `without_spaces` what a field says: rows that
 //!   have other fields too are read by them.
-//! - `add_accepted` appends exactly the lines of an accepted row (`accepted_text`): its number, what happened
-//!   until its time, and the plan with its cost and bound, or what is printed in their place (`Planned`). When
-//!   out of memory the text is as before.
+//! - `add_accepted` and `add_plan` append exactly the lines of an accepted row (`accepted_text`): its number and
+//!   what happened until its time, and then the plan with its cost and bound, unless something that is printed
+//!   in their place stands behind these already. When out of memory the text is as before.
 //! - `put_refused` and `put_end` append exactly the line of a refused row and the lines after the last row;
 //!   when out of memory a beginning of them may be written.
 //! - `code_of` is the code that is printed for the fault of a row.
@@ -33,14 +33,12 @@ mod header_reading;
 mod headers;
 mod log_lines;
 mod openings;
-mod printed_plans;
 mod records;
 mod rows;
 
 pub use header_reading::read_header;
 pub use headers::{Header, is_header};
-pub use log_lines::{add_accepted, code_of, put_end, put_refused};
+pub use log_lines::{add_accepted, add_plan, code_of, put_end, put_refused};
 pub use openings::read_day_opening;
-pub use printed_plans::Planned;
 pub use records::{record_of, without_spaces};
 pub use rows::{GoodRow, read_row};

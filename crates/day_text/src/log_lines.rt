@@ -1,18 +1,17 @@
 //! The lines of a day's log.
 
-ghost use Rattle.std.specs.Prelude.{◌≡◌, ◌++◌, ◌∷◌, [], codes, decimal, IfOk, OnErr, OnOk};
+ghost use Rattle.std.specs.Prelude.{◌≡◌, ◌++◌, ◌∷◌, [], codes, decimal, drop, take, OnErr, OnOk};
 ghost use Rattle.elevator_model.specs.Plans.{IsFeasiblePlan};
 ghost use Rattle.search_model.specs.Days.{code_of_row};
 ghost use Rattle.text_sections.specs.Canonical.{line_text};
 ghost use Rattle.day_text.specs.LogTexts.{event_words, events_text, accepted_words, plan_text};
-ghost use Rattle.day_text.specs.LogTexts.{accepted_text, refused_text, solved_words, total_text};
+ghost use Rattle.day_text.specs.LogTexts.{refused_text, solved_words, total_text};
 
-use crate::printed_plans::Planned;
 use answer_text::write_body;
 use call_state::Snapshot;
 use lift_text::{put_line, put_words};
-use search_model::{Event, RowFault};
-use std::alloc::{AllocError, Global};
+use search_model::{Event, RowFault, Stated};
+use std::alloc::AllocError;
 
 /// The code that is printed for the fault of a row.
 pub fn code_of(fault: RowFault) -> u8
@@ -55,57 +54,37 @@ fn put_accepted_line(out: &mut Vec<u8>, number: u32) -> Result<(), AllocError>
     out.extend_from_slice(b" accepted\n")
 }
 
-/// Writes the plan with its cost and its bound, or the proof in their place.
-fn put_plan(out: &mut Vec<u8>, snapshot: &Snapshot, planned: &Planned) -> Result<(), AllocError>
-    requires { IsFeasiblePlan snapshot.now planned.now.stated.plan }
-    ensures { OnOk result (out.new.items ≡ out.old.items
-        ++ plan_text snapshot.now planned.now.stated planned.now.proof.items) }
-{
-    if planned.proof.is_empty() {
-        let stated = &planned.stated;
-        write_body(snapshot, &stated.plan, stated.cost, stated.bound, out)
-    } else {
-        out.extend_from_slice(planned.proof.as_slice())
-    }
-}
-
-/// The lines of a row that was accepted: what happened until its time, and the plan for the snapshot with its
-/// call.
-fn accepted_lines(
-    alloc: Global,
-    number: u32,
-    events: &[Event],
-    snapshot: &Snapshot,
-    planned: &Planned,
-) -> Result<Vec<u8>, AllocError>
-    requires { IsFeasiblePlan snapshot.now planned.now.stated.plan }
-    ensures { IfOk result (λ text. text.items
-        ≡ accepted_text snapshot.now number events.now planned.now.stated planned.now.proof.items) }
-{
-    let mut text = Vec::new(alloc);
-    put_accepted_line(&mut text, number)?;
-    put_events(&mut text, events)?;
-    put_plan(&mut text, snapshot, planned)?;
-    Ok(text)
-}
-
-/// Appends the lines of a row that was accepted. It fails only where there is no memory left: then the log
-/// is as before.
-pub fn add_accepted(
-    alloc: Global,
-    number: u32,
-    events: &[Event],
-    snapshot: &Snapshot,
-    planned: &Planned,
-    out: &mut Vec<u8>,
-) -> Result<(), AllocError>
-    requires { IsFeasiblePlan snapshot.now planned.now.stated.plan }
+/// Appends the lines of a row that was accepted, up to its plan: that it was, and what happened until its
+/// time. It fails only where there is no memory left: then the log is as before.
+pub fn add_accepted(number: u32, events: &[Event], out: &mut Vec<u8>) -> Result<(), AllocError>
     ensures lines { OnOk result (out.new.items ≡ out.old.items
-        ++ accepted_text snapshot.now number events.now planned.now.stated planned.now.proof.items) }
+        ++ (line_text (accepted_words number) ++ events_text events.now)) }
     ensures as_before { OnErr result (out.new.items ≡ out.old.items) }
 {
-    let text = accepted_lines(alloc, number, events, snapshot, planned)?;
+    let mut text = Vec::new(*out.allocator());
+    put_accepted_line(&mut text, number)?;
+    put_events(&mut text, events)?;
     out.extend_from_slice(text.as_slice())
+}
+
+/// Appends the plan of such a row with its cost and its bound, unless a proof stands in their place, behind
+/// this many bytes. It fails only where there is no memory left: then the log is as before.
+pub fn add_plan(
+    snapshot: &Snapshot,
+    stated: &Stated,
+    place: usize,
+    out: &mut Vec<u8>,
+) -> Result<(), AllocError>
+    requires { IsFeasiblePlan snapshot.now stated.now.plan }
+    ensures lines { OnOk result (out.new.items ≡ take place out.old.items
+        ++ plan_text snapshot.now stated.now (drop place out.old.items)) }
+    ensures as_before { OnErr result (out.new.items ≡ out.old.items) }
+{
+    let written = out.len();
+    if place < written {
+        return Ok(());
+    }
+    write_body(snapshot, &stated.plan, stated.cost, stated.bound, out)
 }
 
 /// Writes the line of a row that was refused. After an `Err` a beginning of it may be written.

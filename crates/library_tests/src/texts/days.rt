@@ -1,14 +1,15 @@
 //! A day with a planner of the test's own: it gives the cheapest plan with a bound that is less, and in place of
 //! the plan's lines how many stops are left of the plan that held before.
 
-ghost use Rattle.std.specs.Prelude.{◌≡◌, None, IfOk};
+ghost use Rattle.std.specs.Prelude.{◌≡◌, ◌++◌, None, IfOk};
+ghost use Rattle.std.specs.Io.{appended_bytes};
 ghost use Rattle.lift_text.specs.LineReader.{failure};
 ghost use Rattle.day_simulator.specs.Planning.{IsRightPlan};
 
 use crate::texts::makers::{OfLines, is_so_of};
 use byte_streams::{MemorySink, MemorySource, OpenGate};
 use call_state::Snapshot;
-use day_simulator::{Ended, Plan, Planned, Planner, run_day_text};
+use day_simulator::{Ended, Plan, Planner, run_day_text};
 use lift_text::{LineReader, put_line};
 use plain_solver::cheapest_plan;
 use search_model::{Served, Stated};
@@ -22,21 +23,23 @@ fn first_stops(plan: &Plan) -> u64 {
     }
 }
 
-/// A right plan of the snapshot, and how many stops were held.
-fn planned(alloc: Global, snapshot: &Snapshot, held: u64) -> Result<Planned, AllocError>
-    ensures { IfOk result (λ planned. IsRightPlan snapshot.now planned.stated) }
+/// A right plan of the snapshot; how many stops were held is appended to the log.
+fn planned(
+    alloc: Global,
+    snapshot: &Snapshot,
+    held: u64,
+    log: &mut Vec<u8>,
+) -> Result<Stated, AllocError>
+    ensures right { IfOk result (λ stated. IsRightPlan snapshot.now stated) }
+    ensures kept { log.new.items ≡ log.old.items ++ appended_bytes log.old.items log.new.items }
 {
-    let mut proof = Vec::new(alloc);
-    put_line(&mut proof, b"held", &[held])?;
+    put_line(log, b"held", &[held])?;
     let cheapest = cheapest_plan(alloc, snapshot)?;
     let bound = cheapest.cost.saturating_sub(1);
-    Ok(Planned {
-        stated: Stated {
-            plan: cheapest.plan,
-            cost: cheapest.cost,
-            bound,
-        },
-        proof,
+    Ok(Stated {
+        plan: cheapest.plan,
+        cost: cheapest.cost,
+        bound,
     })
 }
 
@@ -51,8 +54,13 @@ impl Planner for Cheapest {
 
     ghost right = { λ _ s held stated proof. IsRightPlan s stated };
 
-    fn plan(&self, snapshot: &Snapshot, held: &Plan) -> Result<Planned, AllocError> {
-        planned(self.alloc, snapshot, first_stops(held))
+    fn plan(
+        &self,
+        snapshot: &Snapshot,
+        held: &Plan,
+        log: &mut Vec<u8>,
+    ) -> Result<Stated, AllocError> {
+        planned(self.alloc, snapshot, first_stops(held), log)
     }
 }
 

@@ -7,8 +7,8 @@ use Rattle.cert_text.specs.Texts.{worth_words}
 use Rattle.cert_text.proofs.LineTexts.{worths_are}
 use Rattle.cert_text.proofs.writing.put_worths.Goals as goal
 
-pub returns : goal.returns
-returns c =
+pub returns-clause-text : goal.returns-clause-text
+returns-clause-text c =
     let s = c.args.snapshot.now in
     let items = c.args.worths.now in
     let old = c.args.out.now.items in
