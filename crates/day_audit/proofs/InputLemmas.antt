@@ -1,5 +1,5 @@
 -- An input is its opening, the rows behind it, and the log behind these.
-use Rattle.std.proofs.Common.{◌≡◌, ℕ, ◌<◌, ◌≤◌, ◌⊎◌, inl, inr, List, [], ◌++◌, length, map, take, Option, None, Some, Result, Ok, Err, refl, sym, ap, ◌∙◌}
+use Rattle.std.proofs.Common.{◌≡◌, ℕ, ◌+◌, ◌-◌, ◌<◌, ◌≤◌, ◌⊎◌, inl, inr, List, [], ◌++◌, length, map, take, get_or, Option, None, Some, option_map, Result, Ok, Err, refl, sym, ap, ◌∙◌}
 use Rattle.std.proofs.Common.{subst, arith}
 use Rattle.std.specs.Prelude.{IfSome}
 use Rattle.std.specs.Io.KnownBytes.{IsAtEnd, prepend_known}
@@ -7,10 +7,15 @@ use Rattle.std.proofs.lemmas.Bool.{cases_lt}
 use Rattle.std.proofs.lemmas.List.{append-nil, take-append-le, take_all}
 use Rattle.elevator_model.specs.Snapshot.{Snapshot, IsAccepted}
 use Rattle.search_model.specs.Days.{opening_day}
-use Rattle.lift_text.specs.Reading.{TextState, reading, whole_text}
+use Rattle.lift_text.specs.Lines.{pieces_of}
+use Rattle.lift_text.specs.Reading.{TextState, EndShows, reading, whole_text}
+use Rattle.lift_text.specs.Shows.{FaultShows}
 use Rattle.lift_text.specs.declared.codes.TextCode.{TextCode}
 use Rattle.lift_text.specs.declared.faults.TextFault.{TextFault}
 use Rattle.lift_text.specs.declared.faults.TextFault.TheVariants.{Bad, NoMemory, Read, TooLong}
+use Rattle.lift_text.proofs.SkipLemmas.{size_of, size_of-pieces}
+use Rattle.byte_streams.specs.declared.inputs.InputFault.{InputFault}
+use Rattle.byte_streams.specs.declared.inputs.InputFault.TheVariants.{Read as FailedRead, NoMemory as MemoryWanting}
 use Rattle.day_text.specs.declared.rows.GoodRow.{GoodRow}
 use Rattle.day_text.specs.DayOpenings.{IsDayOpeningRead, IsDayOpeningRefused, IsEmptySnapshot}
 use Rattle.day_state.specs.Openings.{IsOpeningSnapshot}
@@ -21,12 +26,13 @@ use Rattle.day_audit.specs.Audits.{Found, LogFinds, bad_row, bad_text, differs, 
 use Rattle.day_audit.specs.Taking.{IsUnread, TellsFound, TellsOf, found_by}
 use Rattle.log_rows.specs.Rows.{AreRowsGiven, TellsNoLog, TellsRows, said_of}
 use Rattle.day_audit.specs.Progress.{IsLogAudited}
-use Rattle.day_audit.specs.Inputs.{EndsIfJudged, FindsBehind, FindsIn, HasNoBadLine, IsAudit, IsDayAudited, IsShort, IsTextAudited, bad_opening, behind}
-use Rattle.day_audit.specs.Inputs.{if_long, in_log, no_log, rows_past}
+use Rattle.day_audit.specs.Inputs.{EndsIfJudged, FindingShows, FindsBehind, FindsIn, HasNoBadLine, IsAudit, IsDayAudited, IsShort, IsTextAudited}
+use Rattle.day_audit.specs.Inputs.{bad_opening, behind, if_long, in_log, no_log, rows_past, unread}
 use Rattle.day_audit.specs.OneAnswer.{IsFoundInText}
 use Rattle.day_audit.proofs.InputOnce.{text_finds_once, text_or_finds}
+use Rattle.day_audit.proofs.ProvedDays.{log_proved}
 use Rattle.day_audit.proofs.TakingLemmas.{tells, tells_found}
-use Rattle.day_audit.proofs.PastLemmas.{text_is_long}
+use Rattle.day_audit.proofs.FaultPlaces.{EndsItself, bad_line_shows, text_is_long}
 
 -- ---- behind the opening
 
@@ -63,7 +69,16 @@ pub day_audited : (opening : Snapshot) (before mid : Option TextState) (answer :
 day_audited opening None mid answer accepted empty opens audited = tt
 day_audited opening (Some text) None answer accepted empty opens audited = absurd opens
 day_audited opening (Some text) (Some from) (Ok audited) accepted empty opens holds =
-    record { opening = opening; from = from; accepted = accepted; empty = opening_empty opening empty; opens = opens; holds = holds }
+    let is_empty = opening_empty opening empty in
+    record {
+      opening = opening;
+      from = from;
+      accepted = accepted;
+      empty = is_empty;
+      opens = opens;
+      holds = holds;
+      proved = log_proved opening holds.rows (reading holds.log) holds.end accepted is_empty holds.holds;
+    }
 day_audited opening (Some text) (Some from) (Err finding) accepted empty opens told =
     tells_found finding (FindsBehind opening from) (FindsIn text) (λ found finds. behind opening from opens finds) told
 
@@ -101,10 +116,10 @@ long_audited input (Err (Text Read)) long told = tt
 long_audited input (Err (Text NoMemory)) long told = tt
 
 pub long_read : (answer : Result Audited Finding) → IsUnread (if_long answer) → IsUnread answer
-long_read (Ok audited) unread = absurd cc
-long_read (Err (Differs line)) unread = absurd cc
-long_read (Err (BadRow row reason)) unread = absurd cc
-long_read (Err (Text fault)) unread = unread
+long_read (Ok audited) failed = absurd cc
+long_read (Err (Differs line)) failed = absurd cc
+long_read (Err (BadRow row reason)) failed = absurd cc
+long_read (Err (Text fault)) failed = failed
 
 -- the bytes that were read are the first of the input
 first_bytes : (input rest : List ℕ) → length input ≤ 67108865 → (length input < 67108865 → rest ≡ []) → take 67108865 (input ++ rest) ≡ input
@@ -139,3 +154,34 @@ pub none_audited : (finding : Finding) (fault : TextFault) (before : Option (Lis
 none_audited finding fault None is kind = tt
 none_audited finding fault (Some whole) is (inl read) = subst (λ (f : Finding). IsAudit (take 67108865 whole) (Err f)) (sym (is ∙ ap Text read)) tt
 none_audited finding fault (Some whole) is (inr none) = subst (λ (f : Finding). IsAudit (take 67108865 whole) (Err f)) (sym (is ∙ ap Text none)) tt
+
+-- ---- the end of a bad line
+
+bad_line_shown : (input : List ℕ) (now : Option (List ℕ)) (line : ℕ) (code : TextCode) → (length input < 67108865 → IsAtEnd now)
+    → FindsIn (whole_text input) (bad_text (Bad line code)) → FaultShows (option_map whole_text (prepend_known input now)) (Bad line code) now
+bad_line_shown input None line code ends finds = tt
+bad_line_shown input (Some rest) line code ends finds =
+    let shown = bad_line_shows (whole_text input) line code finds in
+    record { taken = input; split = refl; later = shown.later; shows = shown_by shown.shows }
+  where
+    shown_by : (size_of (pieces_of input) ≤ 67108864) ⊎ EndsItself (get_or (pieces_of input) (line - (0 + 1)) [])
+        → EndShows (get_or (pieces_of input) (line - (0 + 1)) []) (Some rest)
+    shown_by (inl short) = inr (inl (ends (omega (arith, short, size_of-pieces input))))
+    shown_by (inr (inl whole)) = inl whole
+    shown_by (inr (inr long)) = inr (inr long)
+
+pub finding_shows : (input : List ℕ) (before now : Option (List ℕ)) (answer : Result Audited Finding) → before ≡ prepend_known input now
+    → (length input < 67108865 → IsAtEnd now) → IsAudit input answer → FindingShows before answer now
+finding_shows input before now (Ok audited) given ends audit = tt
+finding_shows input before now (Err (Differs line)) given ends audit = tt
+finding_shows input before now (Err (BadRow row reason)) given ends audit = tt
+finding_shows input before now (Err (Text (Bad line code))) given ends audit =
+    subst (λ (b : Option (List ℕ)). FaultShows (option_map whole_text b) (Bad line code) now) (sym given) (bad_line_shown input now line code ends audit)
+finding_shows input before now (Err (Text TooLong)) given ends audit = tt
+finding_shows input before now (Err (Text Read)) given ends audit = tt
+finding_shows input before now (Err (Text NoMemory)) given ends audit = tt
+
+pub nothing_shows : (finding : Finding) (fault : InputFault) (before now : Option (List ℕ)) → finding ≡ Text (unread fault)
+    → FindingShows before (Err finding) now
+nothing_shows finding FailedRead before now is = subst (λ (f : Finding). FindingShows before (Err f) now) (sym is) tt
+nothing_shows finding MemoryWanting before now is = subst (λ (f : Finding). FindingShows before (Err f) now) (sym is) tt

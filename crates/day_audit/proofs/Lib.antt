@@ -1,10 +1,10 @@
 pub mod WordLemmas
 pub mod TakingLemmas
 pub mod ProgressLemmas
-pub mod PastLemmas
+pub mod FaultPlaces
 pub mod OpeningOnce
 pub mod LogOnce
 pub mod InputOnce
+pub mod ProvedDays
 pub mod InputLemmas
-pub mod LawLemmas
 pub mod Worked

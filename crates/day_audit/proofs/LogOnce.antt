@@ -1,16 +1,17 @@
 -- A log holds or has a first finding, one of the two, and it has one end or one finding.
-use Rattle.std.proofs.Common.{◌≡◌, ℕ, inl, inr, List, [], ◌∷◌, Option, None, Some, refl, sym, ap, ◌∙◌, subst}
+use Rattle.std.proofs.Common.{◌≡◌, ℕ, ◌+◌, inl, inr, List, [], ◌∷◌, Option, None, Some, refl, sym, ap, ◌∙◌, subst}
 use Rattle.elevator_model.specs.Snapshot.{Snapshot}
 use Rattle.search_model.specs.declared.Event.{Event}
 use Rattle.search_model.specs.declared.Reason.{Reason}
 use Rattle.search_model.specs.declared.RowFault.{RowFault}
+use Rattle.search_model.specs.declared.RowFault.TheVariants.{NoRow}
 use Rattle.search_model.specs.declared.Stated.{Stated}
 use Rattle.search_model.specs.declared.Twig.{Twig}
 use Rattle.search_model.specs.declared.Verdict.{Verdict}
 use Rattle.search_model.specs.declared.Verdict.TheVariants.{Yes, No}
 use Rattle.search_model.specs.Verdicts.{verdict_of}
 use Rattle.search_model.specs.Advancing.{events_by}
-use Rattle.search_model.specs.Days.{Day, Row, step_by}
+use Rattle.search_model.specs.Days.{Day, Row, Run, Step, day_step, fault_of_row, opening_day, run_from, step_by}
 use Rattle.lift_text.specs.Reading.{Reading, line_with, finished, bad_line, past_limit}
 use Rattle.lift_text.specs.declared.faults.TextFault.{TextFault}
 use Rattle.text_sections.specs.Sections.{Line, accepted, outcome}
@@ -31,6 +32,7 @@ use Rattle.day_audit.specs.Audits.{AcceptedFinds, AcceptedInFront, EndFinds, End
 use Rattle.day_audit.specs.Audits.{ProofInFront, RowFinds, RowInFront, RowsFind, RowsInFront, accepted_lines, bad_row, bad_section, bad_text, day_after}
 use Rattle.day_audit.specs.Audits.{end_lines_of, next_fault, no_proof, snapshot_of_row}
 use Rattle.day_audit.specs.OneAnswer.{IsFoundInText, IsOfText}
+use Rattle.day_audit.specs.ProvedDays.{AreLoggedFrom, IsLoggedAs, OneRunLaw}
 use Rattle.day_audit.proofs.OpeningOnce.{no_refusal, one_refusal, same_end}
 
 -- ---- lines
@@ -301,3 +303,36 @@ log_finds_once day rows read found other told also (inr (end, rest, front, finds
     let same = rows_once rows day read last end others rest also_front front in
     end_finds_once (end_lines_of end) rest found other finds
     (subst (λ (d : Day). EndFinds (end_lines_of d) rest other) same.0 (subst (λ (r : Reading). EndFinds (end_lines_of last) r other) same.1 more))
+
+-- ---- the run of a log
+
+-- what is logged of a row is one step
+step_once : (fault : Option RowFault) (day : Day) (n : ℕ) (said : Option Row) (printed also : Stated) (read rest others : Reading)
+    → IsLoggedAs (step_by day n said printed fault).log (step_by day n said printed fault).day.world.snapshot read rest
+    → IsLoggedAs (step_by day n said also fault).log (step_by day n said also fault).day.world.snapshot read others
+    → (step_by day n said printed fault ≡ step_by day n said also fault) × (rest ≡ others)
+step_once (Some fault) day n said printed also read rest others first second =
+    (refl, begins_once (refused_words n fault ∷ []) read rest others first second)
+step_once None day n None printed also read rest others first second = (refl, begins_once (refused_words n NoRow ∷ []) read rest others first second)
+step_once None day n (Some row) printed also read rest others first second =
+    let s = (step_by day n (Some row) printed None).day.world.snapshot in
+    let same = accepted_once s read rest others n (events_by day.world row.time) printed also first second in
+    (ap (λ (p : Stated). step_by day n (Some row) p None) same.0, same.1)
+
+run_once : (one other : ℕ → Stated) (rows : List (Option Row)) (day : Day) (n : ℕ) (read rest others : Reading) → AreLoggedFrom one day n rows read rest
+    → AreLoggedFrom other day n rows read others → run_from one day n rows ≡ run_from other day n rows
+run_once one other [] day n read rest others first second = refl
+run_once one other (said ∷ rows) day n read rest others first second =
+    let step = day_step day n said (one n) in
+    let here = step_once (fault_of_row day.world n said) day n said (one n) (other n) read first.0 second.0 first.1 second.1 in
+    let moved = subst (λ (d : Day). AreLoggedFrom other d (n + 1) rows first.0 others) (sym (ap (λ (s : Step). s.day) here.0))
+    (subst (λ (r : Reading). AreLoggedFrom other (day_step day n said (other n)).day (n + 1) rows r others) (sym here.1) second.2) in
+    ap {B = Run} (λ (r : Run). record { day = r.day; log = step.log ∷ r.log }) (run_once one other rows step.day (n + 1) first.0 rest others first.2 moved)
+    ∙ ap {B = Run} (λ (s : Step).
+    record {
+      day = (run_from other s.day (n + 1) rows).day;
+      log = s.log ∷ (run_from other s.day (n + 1) rows).log;
+    }) here.0
+
+pub one_run : OneRunLaw
+one_run opening rows log one other first second = run_once one other rows (opening_day opening) 1 log first.rest second.rest first.logged second.logged

@@ -1,9 +1,10 @@
 -- An input of an audit: an opening, rows, and the log of their day.
-use Rattle.std.specs.Prelude.{◌≡◌, ℕ, ◌≤◌, ◌<◌, List, length, Option, None, Some, Result, Ok, Err}
+use Rattle.std.specs.Prelude.{◌≡◌, ℕ, ◌≤◌, ◌<◌, List, length, Option, None, Some, option_map, Result, Ok, Err}
 use Rattle.std.specs.Io.KnownBytes.{IsAtEnd}
 use Rattle.elevator_model.specs.Snapshot.{Snapshot, IsAccepted}
 use Rattle.search_model.specs.Days.{Day, Row, opening_day}
 use Rattle.lift_text.specs.Reading.{TextState, reading, whole_text}
+use Rattle.lift_text.specs.Shows.{FaultShows}
 use Rattle.lift_text.specs.declared.codes.TextCode.{TextCode}
 use Rattle.lift_text.specs.declared.faults.TextFault.{TextFault}
 use Rattle.lift_text.specs.declared.faults.TextFault.TheVariants.{Bad, NoMemory, Read, TooLong}
@@ -16,6 +17,7 @@ use Rattle.day_audit.specs.declared.findings.Finding.{Finding}
 use Rattle.day_audit.specs.declared.findings.Finding.TheVariants.{Differs, Row as BadRow, Text}
 use Rattle.day_audit.specs.declared.logs.Audited.{Audited}
 use Rattle.day_audit.specs.Audits.{Found, LogFinds, LogHolds, bad_row, bad_text, differs}
+use Rattle.day_audit.specs.ProvedDays.{IsDayProved}
 use Rattle.day_audit.specs.Taking.{TellsFound}
 
 -- ---- behind the opening
@@ -44,7 +46,8 @@ IsDayAudited opening (Some from) (Err finding) = TellsFound finding (FindsBehind
 
 -- ---- a text
 
--- An opening is in front, with which a day may begin, and nothing is found behind it.
+-- An opening is in front, with which a day may begin, and nothing is found behind it: the log is that of the day of its rows
+-- by the plans that it prints, and these are proved.
 pub record HoldsIn (text : TextState) (audited : Audited) : Type 0 where
   pub opening : Snapshot
   pub from : TextState
@@ -52,6 +55,7 @@ pub record HoldsIn (text : TextState) (audited : Audited) : Type 0 where
   pub empty : IsOpeningSnapshot opening
   pub opens : DayOpeningInFront text opening from
   pub holds : HoldsBehind opening from audited
+  pub proved : IsDayProved opening holds.rows (reading holds.log) holds.end
 
 -- what is found first in the text: a fault of the opening, or what is found behind it
 pub data FindsIn (text : TextState) (found : Found) : Type 0 where
@@ -101,3 +105,10 @@ EndsIfJudged (Ok audited) left = IsAtEnd left
 EndsIfJudged (Err (Differs line)) left = IsAtEnd left
 EndsIfJudged (Err (BadRow row reason)) left = IsAtEnd left
 EndsIfJudged (Err (Text fault)) left = Unit {0}
+
+-- where a line is told to be bad, its end shows in the bytes that were taken
+abbrev pub FindingShows : Option (List ℕ) → Result Audited Finding → Option (List ℕ) → Type 0
+FindingShows left (Ok audited) left' = Unit {0}
+FindingShows left (Err (Differs line)) left' = Unit {0}
+FindingShows left (Err (BadRow row reason)) left' = Unit {0}
+FindingShows left (Err (Text fault)) left' = FaultShows (option_map whole_text left) fault left'

@@ -4,7 +4,8 @@ ghost use Rattle.std.specs.Prelude.{◌≡◌, ◌≤◌, None, IfSome, take};
 ghost use Rattle.byte_streams.specs.Streams.{Rose};
 ghost use Rattle.day_state.specs.Openings.{IsOpeningSnapshot};
 ghost use Rattle.lift_text.specs.LineReader.{text, failure};
-ghost use Rattle.day_audit.specs.Inputs.{EndsIfJudged, IsAudit, IsDayAudited, IsTextAudited};
+ghost use Rattle.day_audit.specs.Inputs.{EndsIfJudged, FindingShows, IsAudit, IsDayAudited};
+ghost use Rattle.day_audit.specs.Inputs.{IsTextAudited};
 ghost use Rattle.day_audit.specs.Inputs.{if_long as if_long_lem};
 ghost use Rattle.day_audit.specs.Inputs.{unread as unread_lem};
 ghost use Rattle.day_audit.specs.Taking.{IsUnread};
@@ -101,13 +102,15 @@ fn unread(fault: InputFault) -> TextFault
 ///
 /// The input is read whole before, up to 67,108,865 bytes, and with 1 to 16 workers the answer is the same.
 /// `Read` comes only where a read of the source failed. After a finding of the log, as after none, the source
-/// is at its end: such an answer to an input of more than 67,108,864 bytes is `TooLong`.
+/// is at its end: such an answer to an input of more than 67,108,864 bytes is `TooLong`. The end of a line that is
+/// told to be bad shows in the bytes that were taken.
 pub fn audit<S: Source, C: JudgingCrew, G: Gate>(
     runtime: &Runtime<C, G>,
     source: &mut S,
 ) -> Result<Audited, Finding>
     ensures audit { IfSome (S.left source.old) (λ input. IsAudit (take 67108865 input) result) }
     ensures ended { EndsIfJudged result (S.left source.new) }
+    ensures shows { FindingShows (S.left source.old) result (S.left source.new) }
     ensures read { IsUnread result → Rose (S.faults source.old) (S.faults source.new) }
     ensures counted { S.faults source.old ≤ S.faults source.new }
 {

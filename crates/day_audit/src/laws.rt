@@ -1,18 +1,14 @@
-//! What holds of every log in which nothing is found, and of every answer.
+//! What holds of every answer.
 
-ghost use Rattle.day_audit.specs.Laws.{AuditLaw};
 ghost use Rattle.day_audit.specs.OneAnswer.{BadLineLaw, OneAnswerLaw};
-
-/// Where the log of a day holds, the day was run with the printed plans: each is feasible and has its cost,
-/// and no feasible plan costs less than its bound. No accepted call is lost, and each is delivered.
-pub fn audit_laws()
-    ensures { AuditLaw }
-{}
+ghost use Rattle.day_audit.specs.ProvedDays.{OneRunLaw};
 
 /// An input has one answer, but for a failed read and running out of memory: that its log holds, with its numbers, or
 /// what is found first; where the input is too long, that bad line which is found first, if there is one, and
-/// else that it is too long.
+/// else that it is too long. A log is that of one run of its rows, so a yes is about the plans in the log and
+/// about no others.
 pub fn answer_laws()
     ensures one { OneAnswerLaw }
     ensures bad { BadLineLaw }
+    ensures run { OneRunLaw }
 {}

@@ -2,7 +2,7 @@ use Rattle.std.proofs.Common.{◌∙◌, inl, inr}
 use Rattle.command_ends.specs.Ends.{streams}
 use Rattle.command_ends.proofs.EndLemmas.{ends_fault, fault_status, put_whole}
 use Rattle.audit_command.specs.AuditOutcome.{AuditDue, FindingIsDue}
-use Rattle.audit_command.proofs.AuditLemmas.{audits_left, either_of, ends_found, refusal_due, rose_where_read}
+use Rattle.audit_command.proofs.AuditLemmas.{audits_left, either_of, ends_found, refusal_due, rose_where_read, says_yes}
 use Rattle.audit_command.proofs.auditing.audit.Goals as goal
 
 pub returns-in-Ok-clause-ends : goal.returns-in-Ok-clause-ends
@@ -12,11 +12,13 @@ returns-in-Ok-clause-ends g c =
     let new = streams (left c.audit-found.new.source) (g.K.Sink.taken c.put.new.sink) (g.S.Source.faults c.audit-found.new.source)
     (g.K.Sink.faults c.put.new.sink) in
     let answer = c.in-Ok.answer in
+    let audits = audits_left (left c.args.source.now) c.audit-found.result c.audit-found.ensures.audit in
     let due : FindingIsDue (left c.args.source.now) (left c.audit-found.new.source) answer.status answer.text.items = record {
       answer = c.audit-found.result;
       told = c.in-Ok.ensures.told;
-      audit = audits_left (left c.args.source.now) c.audit-found.result c.audit-found.ensures.audit;
+      audit = audits;
       ended = c.audit-found.ensures.ended;
+      proved = says_yes (left c.args.source.now) c.audit-found.result answer.status answer.text.items c.in-Ok.ensures.told audits;
     } in
     ends_found (left c.args.source.now) (left c.audit-found.new.source) old new answer.text.items answer.status c.put.result due
     (rw c.as_slice.ensures.value at c.put.ensures.put)
@@ -38,7 +40,7 @@ returns-in-Err-clause-ends g c =
     (g.K.Sink.faults c.put_fault.new.sink) in
     ends_fault (AuditDue (left c.args.source.now) (left c.audit-found.new.source)) c.in-Err.fault old new c.put_fault.result
     (λ text is_line. refusal_due (left c.args.source.now) (left c.audit-found.new.source) c.audit-found.result c.in-Err.fault text
-    (audits_left (left c.args.source.now) c.audit-found.result c.audit-found.ensures.audit) c.in-Err.ensures.fault is_line)
+    (audits_left (left c.args.source.now) c.audit-found.result c.audit-found.ensures.audit) c.audit-found.ensures.shows c.in-Err.ensures.fault is_line)
     (λ e. rose_where_read c.audit-found.result c.in-Err.fault _ _ c.in-Err.ensures.fault e c.audit-found.ensures.read) c.put_fault.ensures
 
 pub returns-in-Err-clause-audits : goal.returns-in-Err-clause-audits

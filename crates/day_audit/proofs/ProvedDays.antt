@@ -13,7 +13,7 @@ use Rattle.search_model.specs.declared.Stated.{Stated}
 use Rattle.search_model.specs.Advancing.{World, advanced}
 use Rattle.search_model.specs.Days.{ArePlannedFrom, Day, IsRightLog, Row, Run, call_of_row, day_step, fault_of_new_call, fault_of_good_row, fault_of_row}
 use Rattle.search_model.specs.Days.{is_row, opening_day, run_from, step_by}
-use Rattle.lift_text.specs.Reading.{Reading, reading}
+use Rattle.lift_text.specs.Reading.{Reading}
 use Rattle.day_state.specs.Openings.{IsOpeningSnapshot, taken}
 use Rattle.day_state.proofs.AdvanceLaws.{accepted-there}
 use Rattle.day_state.proofs.OpeningLaws.{opening-feasible}
@@ -25,8 +25,8 @@ use Rattle.day_laws.proofs.DayLemmas.{loses-nobody, step-serves}
 use Rattle.day_laws.proofs.RowFaults.{call-is-new, is-good, step-number}
 use Rattle.day_laws.proofs.ServedLemmas.{IsDayServing, opening-serves}
 use Rattle.cert_checker.proofs.VerdictLaws.{yes_holds}
-use Rattle.day_audit.specs.Audits.{LogHolds, ProofInFront, RowInFront, RowsInFront, next_fault, snapshot_of_row}
-use Rattle.day_audit.specs.Laws.{AuditLaw, IsBestPlan, IsDayProved}
+use Rattle.day_audit.specs.Audits.{EndInFront, LogHolds, ProofInFront, RowInFront, RowsInFront, end_lines_of, next_fault, snapshot_of_row}
+use Rattle.day_audit.specs.ProvedDays.{AreLoggedFrom, IsBestPlan, IsDayProved, IsLoggedAs}
 use Rattle.day_audit.specs.Taking.{IsProvedPlan}
 
 -- ---- an accepted row
@@ -64,6 +64,13 @@ row_proved day (Some row) printed None read rest past is serves front =
     proved_in front.0 (snapshot_of_row day row) printed rest
     (accepted_with day.world (row_number day) row serves.accepted serves.feasible serves.open_known serves.aboard_known is) front.2
 
+-- its lines are those that the run's log has
+row_logged : (day : Day) (said : Option Row) (printed : Stated) (fault : Option RowFault) (read rest : Reading) → RowInFront fault day said printed read rest
+    → IsLoggedAs (step_by day (row_number day) said printed fault).log (step_by day (row_number day) said printed fault).day.world.snapshot read rest
+row_logged day said printed (Some fault) read rest front = front
+row_logged day None printed None read rest front = absurd front
+row_logged day (Some row) printed None read rest front = front
+
 -- ---- what is printed
 
 -- Two lists of plans that are the same from row n on lead to the same run.
@@ -89,6 +96,17 @@ same_planned right f g n (said ∷ rows) day same planned =
           (same_planned right f g (n + 1) rows (day_step day n said (f n)).day (λ k h. same k (omega (arith, h))) planned.1),
     )
 
+same_logged : (f g : ℕ → Stated) (n : ℕ) (rows : List (Option Row)) (day : Day) (read rest : Reading) → ((k : ℕ) → n ≤ k → f k ≡ g k)
+    → AreLoggedFrom f day n rows read rest → AreLoggedFrom g day n rows read rest
+same_logged f g n [] day read rest same logged = logged
+same_logged f g n (said ∷ rows) day read rest same logged =
+    let here = same n (omega arith) in (
+      logged.0,
+      subst (λ (p : Stated). IsLoggedAs (day_step day n said p).log (day_step day n said p).day.world.snapshot read logged.0) here logged.1,
+      subst (λ (p : Stated). AreLoggedFrom g (day_step day n said p).day (n + 1) rows logged.0 rest) here
+          (same_logged f g (n + 1) rows (day_step day n said (f n)).day logged.0 rest (λ k h. same k (omega (arith, h))) logged.2),
+    )
+
 -- this plan for row n, and the others for the other rows
 abbrev plan_then : (n : ℕ) → Stated → (ℕ → Stated) → ℕ → Stated
 plan_then n first later k = cond (eqb k n) first (later k)
@@ -101,21 +119,29 @@ plan_later n first later k above = sym (ap (λ (b : Bool). cond b first (later k
 
 -- ---- rows one after another
 
--- the rows were run with printed plans that are proved, from row n on
-record IsRunProved (day : Day) (n : ℕ) (rows : List (Option Row)) (end : Day) : Type 0 where
+-- the rows from row n on were run with printed plans that are proved, and their lines are in front
+record IsRunProved (day : Day) (n : ℕ) (rows : List (Option Row)) (read : Reading) (end : Day) (rest : Reading) : Type 0 where
   pub printed : ℕ → Stated
+  pub logged : AreLoggedFrom printed day n rows read rest
   pub end_is : end ≡ (run_from printed day n rows).day
   pub planned : ArePlannedFrom IsProvedPlan printed day n rows
 
-run_more : (day : Day) (n : ℕ) (said : Option Row) (rows : List (Option Row)) (first : Stated) (end : Day)
+run_more : (day : Day) (n : ℕ) (said : Option Row) (rows : List (Option Row)) (first : Stated) (read between : Reading) (end : Day) (rest : Reading)
+    → IsLoggedAs (day_step day n said first).log (day_step day n said first).day.world.snapshot read between
     → IsRightLog IsProvedPlan (day_step day n said first).day.world (day_step day n said first).log
-    → IsRunProved (day_step day n said first).day (n + 1) rows end → IsRunProved day n (said ∷ rows) end
-run_more day n said rows first end right later =
+    → IsRunProved (day_step day n said first).day (n + 1) rows between end rest → IsRunProved day n (said ∷ rows) read end rest
+run_more day n said rows first read between end rest logged right later =
     let printed = plan_then n first later.printed in
     let here = sym (plan_here n first later.printed) in
     let next = (day_step day n said first).day in
     record {
       printed = printed;
+      logged = (
+        between,
+        subst (λ (p : Stated). IsLoggedAs (day_step day n said p).log (day_step day n said p).day.world.snapshot read between) here logged,
+        subst (λ (p : Stated). AreLoggedFrom printed (day_step day n said p).day (n + 1) rows between rest) here
+            (same_logged later.printed printed (n + 1) rows next between rest (plan_later n first later.printed) later.logged),
+      );
       end_is = later.end_is ∙ ap (λ (r : Run). r.day) (same_run later.printed printed (n + 1) rows next (plan_later n first later.printed))
           ∙ ap (λ (p : Stated). (run_from printed (day_step day n said p).day (n + 1) rows).day) here;
       planned = (
@@ -126,17 +152,19 @@ run_more day n said rows first end right later =
     }
 
 rows_proved : (rows : List (Option Row)) (day : Day) (past : List Event) (read : Reading) (end : Day) (rest : Reading) → IsDayServing day past
-    → RowsInFront day rows read end rest → IsRunProved day (row_number day) rows end
-rows_proved [] day past read end rest serves front = record { printed = λ k. record { plan = []; cost = 0; bound = 0 }; end_is = front.0; planned = tt }
+    → RowsInFront day rows read end rest → IsRunProved day (row_number day) rows read end rest
+rows_proved [] day past read end rest serves front =
+    record { printed = λ k. record { plan = []; cost = 0; bound = 0 }; logged = front.1; end_is = front.0; planned = tt }
 rows_proved (said ∷ rows) day past read end rest serves front =
     let n = row_number day in
     let printed = front.0 in
     let fault = next_fault day said in
+    let logged = row_logged day said printed fault read front.1 front.2 in
     let right = row_proved day said printed fault read front.1 past refl serves front.2 in
     let step = day_step day n said printed in
     let serves_then = step-serves IsProvedPlan (λ s stated proved. proved.feasible) day said printed fault past refl right serves in
-    run_more day n said rows printed end right
-    (subst (λ (m : ℕ). IsRunProved step.day m rows end) (step-number day n said printed fault)
+    run_more day n said rows printed read front.1 end rest logged right
+    (subst (λ (m : ℕ). IsRunProved step.day m rows front.1 end rest) (step-number day n said printed fault)
     (rows_proved rows step.day (past ++ events_of_log step.log) front.1 end rest serves_then front.3))
 
 -- ---- plans of the least cost
@@ -200,18 +228,21 @@ feasible_rows printed day n (said ∷ rows) planned = (
   feasible_rows printed (day_step day n said (printed n)).day (n + 1) rows planned.1,
 )
 
-log_proved : (opening : Snapshot) (rows : List (Option Row)) (read : Reading) (end : Day) → IsAccepted opening → IsOpeningSnapshot opening
-    → LogHolds (opening_day opening) rows read end → IsDayProved opening rows end
+-- a log in which nothing is found
+pub log_proved : (opening : Snapshot) (rows : List (Option Row)) (read : Reading) (end : Day) → IsAccepted opening → IsOpeningSnapshot opening
+    → LogHolds (opening_day opening) rows read end → IsDayProved opening rows read end
 log_proved opening rows read end accepted opens holds =
     let day = opening_day opening in
     let run = rows_proved rows day [] read end holds.0 (opening-serves opening accepted opens (opening-feasible opening accepted opens)) holds.1 in
     record {
       printed = run.printed;
+      log_is = record {
+        rest = holds.0;
+        logged = run.logged;
+        ended = subst (λ (d : Day). EndInFront (end_lines_of d) holds.0) run.end_is holds.2;
+      };
       end_is = run.end_is;
       planned = run.planned;
       best = λ none. rows_best run.printed day 1 rows (let same = ap (λ (d : Day). d.unsolved) run.end_is in omega (arith, none, same)) run.planned;
       nobody_lost = loses-nobody opening run.printed rows accepted opens (feasible_rows run.printed day 1 rows run.planned);
     }
-
-pub day_proved : AuditLaw
-day_proved text audited is = log_proved is.opening is.holds.rows (reading is.holds.log) is.holds.end is.accepted is.empty is.holds.holds
