@@ -36,7 +36,7 @@ due_by_test false said code step good e = absurd (subst IsTaken (sym e) good)
 -- only the line that is due is taken
 pub due_line : (d : Draft) (words : Line) (step : Step Draft) → IsTaken step → after d words ≡ step → (is_word words 0 (name_of d.due) ≡ true)
     × (taken d.due d words ≡ Ok step)
-due_line d words step good e = due_by_test (is_word words 0 (name_of d.due)) (taken d.due d words) (misplaced words) step good e
+due_line d words step good e = due_by_test (is_word words 0 (name_of d.due)) (taken d.due d words) (misplaced d.due words) step good e
 
 taken_by_test : (due : Bool) (said : Judged (Step Draft)) (code : TextCode) (step : Step Draft) → due ≡ true → said ≡ Ok step
     → step_of (cond due said (Err code)) ≡ step
@@ -45,7 +45,7 @@ taken_by_test false said code step named is = absurd cc
 
 -- and it is taken
 pub line_taken : (d : Draft) (words : Line) (step : Step Draft) → is_word words 0 (name_of d.due) ≡ true → taken d.due d words ≡ Ok step → after d words ≡ step
-line_taken d words step named is = taken_by_test (is_word words 0 (name_of d.due)) (taken d.due d words) (misplaced words) step named is
+line_taken d words step named is = taken_by_test (is_word words 0 (name_of d.due)) (taken d.due d words) (misplaced d.due words) step named is
 
 -- ---- the first line
 

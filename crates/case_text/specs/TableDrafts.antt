@@ -37,7 +37,7 @@ taken (End floors) d words = exactly words 1 >>= λ _. Ok (is_whole d)
 
 -- no other line is taken
 abbrev pub judged : Draft → Line → Judged (Step Draft)
-judged d words = if is_word words 0 (name_of d.due) then taken d.due d words else Err (misplaced words)
+judged d words = if is_word words 0 (name_of d.due) then taken d.due d words else Err (misplaced d.due words)
 
 abbrev pub after : Draft → Line → Step Draft
 after d words = step_of (judged d words)

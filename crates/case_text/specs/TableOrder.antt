@@ -1,5 +1,5 @@
 -- The lines of a table in their order, by their line words.
-use Rattle.std.specs.Prelude.{ℕ, ◌*◌, ◌==◌, ◌||◌, Bool, List, Some, codes, if◌then◌else◌}
+use Rattle.std.specs.Prelude.{ℕ, ◌*◌, ◌==◌, ◌||◌, ◌&&◌, Bool, true, false, not, List, Some, codes, if◌then◌else◌}
 use Rattle.lift_text.specs.declared.codes.TextCode.{TextCode}
 use Rattle.lift_text.specs.declared.codes.TextCode.TheVariants.{NoLineWord, OutOfOrder}
 use Rattle.text_sections.specs.Sections.{Line}
@@ -20,6 +20,11 @@ after_rows floors times = if times == floors * floors then End floors else Times
 abbrev pub is_line_word : Line → Bool
 is_line_word words = is_word words 0 (codes "table") || is_word words 0 (codes "times") || is_word words 0 (codes "end")
 
--- what is wrong with a line that is not due
-abbrev pub misplaced : Line → TextCode
-misplaced words = if is_line_word words then OutOfOrder else NoLineWord
+abbrev pub is_first : Due → Bool
+is_first Head = true
+is_first (Times floors) = false
+is_first (End floors) = false
+
+-- what is wrong with a line that is not due: before the first line no other line word is known
+abbrev pub misplaced : Due → Line → TextCode
+misplaced due words = if not (is_first due) && is_line_word words then OutOfOrder else NoLineWord

@@ -38,10 +38,11 @@ rest_row = refl
 unknown_first_row : outcome after (line_with 3 (codes "tables" ∷ codes "1" ∷ []) (finished 7)) no_draft ≡ refused 3 NoLineWord
 unknown_first_row = refl
 
-times_first_row : outcome after (line_with 3 (times_line (codes "0" ∷ codes "5" ∷ [])) (finished 7)) no_draft ≡ refused 3 OutOfOrder
+-- before the first line no other line word is known
+times_first_row : outcome after (line_with 3 (times_line (codes "0" ∷ codes "5" ∷ [])) (finished 7)) no_draft ≡ refused 3 NoLineWord
 times_first_row = refl
 
-end_first_row : outcome after (line_with 4 end_line (finished 7)) no_draft ≡ refused 4 OutOfOrder
+end_first_row : outcome after (line_with 4 end_line (finished 7)) no_draft ≡ refused 4 NoLineWord
 end_first_row = refl
 
 no_version_row : outcome after (line_with 3 (codes "table" ∷ []) (finished 7)) no_draft ≡ refused 3 Missing

@@ -1,7 +1,7 @@
 //! A table as far as its lines were read.
 ghost use Rattle.std.specs.Prelude.{◌≡◌};
 
-use crate::table_order::{Due, misplaced};
+use crate::table_order::Due;
 use crate::tables::Table;
 use lift_text::{LineReader, Source};
 use motion_table::read_row;
@@ -86,7 +86,7 @@ impl Section for TableDraft {
 
     fn take_line<S: Source>(&mut self, lines: &LineReader<S>) -> Result<AfterLine, LineFault> {
         if !is_word(lines, 0, self.due.name()) {
-            return Err(LineFault::from(misplaced(lines)));
+            return Err(LineFault::from(self.due.misplaced(lines)));
         }
         match self.due {
             Due::Head => self.take_head(lines),

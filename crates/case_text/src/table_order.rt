@@ -1,7 +1,7 @@
 //! The order of a table's lines.
 ghost use Rattle.std.specs.Prelude.{◌≡◌, ◌<◌, ◌≤◌, length};
 ghost use Rattle.lift_text.specs.LineReader.{words};
-ghost use Rattle.case_text.specs.TableOrder.{name_of, after_rows, is_line_word, misplaced};
+ghost use Rattle.case_text.specs.TableOrder.{name_of, after_rows, is_first, is_line_word, misplaced};
 
 use lift_text::{LineReader, Source, TextCode};
 use text_sections::is_word;
@@ -29,6 +29,13 @@ impl Due {
         }
     }
 
+    /// Whether no line was read yet.
+    fn is_first(self) -> bool
+        ensures { result ≡ is_first self }
+    {
+        matches!(self, Due::Head)
+    }
+
     /// What is due after this many times, of this many floors.
     pub(crate) fn after_rows(floors: u32, times: usize) -> Due
         requires { floors ≤ 64 }
@@ -42,6 +49,18 @@ impl Due {
             }
         }
     }
+
+    /// What is wrong with a line that is not due.
+    pub(crate) fn misplaced<S: Source>(self, lines: &LineReader<S>) -> TextCode
+        requires { 0 < length (words lines.now) }
+        ensures { result ≡ misplaced self (words lines.now) }
+    {
+        if !self.is_first() && is_line_word(lines) {
+            TextCode::OutOfOrder
+        } else {
+            TextCode::NoLineWord
+        }
+    }
 }
 
 /// Whether the first word is a line word of a table.
@@ -50,16 +69,4 @@ fn is_line_word<S: Source>(lines: &LineReader<S>) -> bool
     ensures { result ≡ is_line_word (words lines.now) }
 {
     is_word(lines, 0, b"table") || is_word(lines, 0, b"times") || is_word(lines, 0, b"end")
-}
-
-/// What is wrong with a line that is not due.
-pub(crate) fn misplaced<S: Source>(lines: &LineReader<S>) -> TextCode
-    requires { 0 < length (words lines.now) }
-    ensures { result ≡ misplaced (words lines.now) }
-{
-    if is_line_word(lines) {
-        TextCode::OutOfOrder
-    } else {
-        TextCode::NoLineWord
-    }
 }

@@ -42,8 +42,9 @@ fn read_table<S: Source>(alloc: Global, lines: &mut LineReader<S>) -> Result<Tab
 /// it to each floor, `end`, and no other line with a word. The first line of times decides how many floors
 /// there are, 2 to 64. The allocator comes first.
 ///
-/// The first bad line decides, with its number and one code, of which the first of these comes: `NoLineWord`;
-/// `OutOfOrder` for a line word that is not due, and for a line after `end`; `Missing` and `TooMany`;
+/// The first bad line decides, with its number and one code, of which the first of these comes: `NoLineWord`,
+/// before the first line for every word but `table`; `OutOfOrder` for a line word that is not due, and for a
+/// line after `end`; `Missing` and `TooMany`;
 /// `NoNumber` and `OutOfRange` where a word is no number from 0 to 20,000,000, or the version is not 1; and
 /// then `NoTime` where a time is not 0 from a floor to itself or is 0 between two floors. `CutShort` comes
 /// where the input ends before `end`. Whether a way over a third floor is shorter is not judged here. The end

@@ -4,6 +4,8 @@ use Rattle.elevator_model.specs.Printed.{code_of}
 use Rattle.lift_text.specs.declared.codes.TextCode.{TextCode}
 use Rattle.lift_text.specs.declared.codes.TextCode.TheVariants.{ForbiddenByte, OverLong, NoLineWord, Missing, TooMany, NoNumber, OutOfRange, OutOfOrder}
 use Rattle.lift_text.specs.declared.codes.TextCode.TheVariants.{CutShort, NoState, ClaimsPast, UnknownId, NotInOpening, NoHeader, ShorterWay, NoTime, Item}
+use Rattle.command_ends.specs.declared.input_faults.OwnCode.{OwnCode}
+use Rattle.command_ends.specs.declared.input_faults.OwnCode.TheVariants.{NothingAsked, UsedId, TooManyBanks}
 
 abbrev pub number_of : TextCode → ℕ
 number_of ForbiddenByte = 1
@@ -24,14 +26,8 @@ number_of ShorterWay = 52
 number_of NoTime = 53
 number_of (Item fault) = code_of fault
 
--- of the line after which no call is there that can be asked about
-abbrev pub nothing_asked : ℕ
-nothing_asked = 54
-
--- of the line of a bank with the id of an earlier one
-abbrev pub used_id : ℕ
-used_id = 55
-
--- of the line of a bank that is one too many
-abbrev pub too_many_banks : ℕ
-too_many_banks = 56
+-- the numbers that are printed for what one command alone refuses
+abbrev pub number_of_own : OwnCode → ℕ
+number_of_own NothingAsked = 54
+number_of_own UsedId = 55
+number_of_own TooManyBanks = 56

@@ -5,7 +5,8 @@ use Rattle.byte_streams.specs.Streams.{Rose}
 use Rattle.lift_text.specs.Text.{words, line}
 use Rattle.lift_text.specs.declared.faults.TextFault.{TextFault}
 use Rattle.lift_text.specs.declared.faults.TextFault.TheVariants.{Read as FailedRead, TooLong, Bad, NoMemory}
-use Rattle.command_ends.specs.Codes.{nothing_asked, number_of, too_many_banks, used_id}
+use Rattle.command_ends.specs.Codes.{number_of, number_of_own}
+use Rattle.command_ends.specs.declared.input_faults.OwnCode.{OwnCode}
 use Rattle.command_ends.specs.declared.status.Status.{Status}
 use Rattle.command_ends.specs.declared.status.Status.TheVariants.{Done, Words, Stopped, Refused, Input, Read, Write, Memory}
 
@@ -84,26 +85,12 @@ PutsLine IsLine result old new before after =
 abbrev pub PutsRefusal : TextFault → (result : Status) → (old new : Option (List ℕ)) → (before after : ℕ) → Type 0
 PutsRefusal fault result old new before after = PutsLine (IsRefusalLine fault) result old new before after
 
--- the line that tells that behind this one no call is there that can be asked about
-abbrev pub IsNothingAskedLine : (number : ℕ) → List ℕ → Type 0
-IsNothingAskedLine number text = text ≡ refusal_text number nothing_asked
+-- the line that tells a line of the input and what one command alone refuses there
+abbrev pub IsOwnLine : (number : ℕ) → OwnCode → List ℕ → Type 0
+IsOwnLine number code text = text ≡ refusal_text number (number_of_own code)
 
-abbrev pub PutsNothingAsked : (number : ℕ) → (result : Status) → (old new : Option (List ℕ)) → (before after : ℕ) → Type 0
-PutsNothingAsked number result old new before after = PutsLine (IsNothingAskedLine number) result old new before after
-
--- the line that tells that the bank of this line has the id of an earlier one
-abbrev pub IsUsedIdLine : (number : ℕ) → List ℕ → Type 0
-IsUsedIdLine number text = text ≡ refusal_text number used_id
-
-abbrev pub PutsUsedId : (number : ℕ) → (result : Status) → (old new : Option (List ℕ)) → (before after : ℕ) → Type 0
-PutsUsedId number result old new before after = PutsLine (IsUsedIdLine number) result old new before after
-
--- the line that tells that the bank of this line is one too many
-abbrev pub IsTooManyBanksLine : (number : ℕ) → List ℕ → Type 0
-IsTooManyBanksLine number text = text ≡ refusal_text number too_many_banks
-
-abbrev pub PutsTooManyBanks : (number : ℕ) → (result : Status) → (old new : Option (List ℕ)) → (before after : ℕ) → Type 0
-PutsTooManyBanks number result old new before after = PutsLine (IsTooManyBanksLine number) result old new before after
+abbrev pub PutsOwn : (number : ℕ) → OwnCode → (result : Status) → (old new : Option (List ℕ)) → (before after : ℕ) → Type 0
+PutsOwn number code result old new before after = PutsLine (IsOwnLine number code) result old new before after
 
 -- How an input is answered that was not taken.
 abbrev pub PutsFault : TextFault → (result : Status) → (old new : Option (List ℕ)) → (before after : ℕ) → Type 0

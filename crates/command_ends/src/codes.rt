@@ -1,17 +1,9 @@
 //! The numbers that are printed for what is wrong with a line.
 ghost use Rattle.std.specs.Prelude.{◌≡◌};
-ghost use Rattle.command_ends.specs.Codes.{number_of};
+ghost use Rattle.command_ends.specs.Codes.{number_of, number_of_own};
 
+use crate::input_faults::OwnCode;
 use lift_text::TextCode;
-
-/// The number that is printed where a case has no call that can be asked about.
-pub(crate) const NOTHING_ASKED: u8 = 54;
-
-/// The number that is printed where a bank has the id of an earlier one.
-pub(crate) const USED_ID: u8 = 55;
-
-/// The number that is printed where there are more banks than an input may have.
-pub(crate) const TOO_MANY_BANKS: u8 = 56;
 
 /// The number that is printed for what is wrong with a line.
 pub fn number_of(code: TextCode) -> u8
@@ -35,5 +27,16 @@ pub fn number_of(code: TextCode) -> u8
         TextCode::ShorterWay => 52,
         TextCode::NoTime => 53,
         TextCode::Item(fault) => fault.code(),
+    }
+}
+
+/// The number that is printed for what one command alone refuses.
+pub(crate) fn number_of_own(code: OwnCode) -> u8
+    ensures { result ≡ number_of_own code }
+{
+    match code {
+        OwnCode::NothingAsked => 54,
+        OwnCode::UsedId => 55,
+        OwnCode::TooManyBanks => 56,
     }
 }

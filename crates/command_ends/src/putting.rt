@@ -1,9 +1,10 @@
 //! Writing what is due.
 ghost use Rattle.std.specs.Prelude.{◌≡◌, ℕ, List, ◌≤◌, IfOk};
-ghost use Rattle.command_ends.specs.Ends.{IsRefusalLine, Puts, PutsFault, PutsLine, PutsNothingAsked};
-ghost use Rattle.command_ends.specs.Ends.{PutsTooManyBanks, PutsUsedId, refusal_text};
+ghost use Rattle.command_ends.specs.Ends.{IsRefusalLine, Puts, PutsFault, PutsLine, PutsOwn, refusal_text};
+ghost use Rattle.command_ends.specs.InputFaults.{PutsInputFault};
 
-use crate::codes::{NOTHING_ASKED, TOO_MANY_BANKS, USED_ID, number_of};
+use crate::codes::{number_of, number_of_own};
+use crate::input_faults::{InputFault, OwnCode};
 use crate::status::Status;
 use byte_streams::{Sink, put_all};
 use lift_text::{TextFault, put_line, put_words};
@@ -59,32 +60,15 @@ fn put_refusal<K: Sink>(alloc: Global, line: u64, code: u8, sink: &mut K) -> Sta
     }
 }
 
-/// Writes that the case that ends with this line has no call that can be asked about. When out of memory,
-/// nothing is written.
-pub fn put_nothing_asked<K: Sink>(alloc: Global, line: u64, sink: &mut K) -> Status
-    ensures { PutsNothingAsked line result (K.taken sink.old) (K.taken sink.new) (K.faults sink.old)
+/// Writes what one command alone refuses at a line of the input. When out of memory, nothing is written.
+pub fn put_own_fault<K: Sink>(alloc: Global, line: u64, code: OwnCode, sink: &mut K) -> Status
+    ensures { PutsOwn line code result (K.taken sink.old) (K.taken sink.new) (K.faults sink.old)
         (K.faults sink.new) }
 {
-    put_refusal(alloc, line, NOTHING_ASKED, sink)
+    put_refusal(alloc, line, number_of_own(code), sink)
 }
 
-/// Writes that the bank of this line has the id of an earlier one. When out of memory, nothing is written.
-pub fn put_used_id<K: Sink>(alloc: Global, line: u64, sink: &mut K) -> Status
-    ensures { PutsUsedId line result (K.taken sink.old) (K.taken sink.new) (K.faults sink.old)
-        (K.faults sink.new) }
-{
-    put_refusal(alloc, line, USED_ID, sink)
-}
-
-/// Writes that the bank of this line is one too many. When out of memory, nothing is written.
-pub fn put_too_many_banks<K: Sink>(alloc: Global, line: u64, sink: &mut K) -> Status
-    ensures { PutsTooManyBanks line result (K.taken sink.old) (K.taken sink.new) (K.faults sink.old)
-        (K.faults sink.new) }
-{
-    put_refusal(alloc, line, TOO_MANY_BANKS, sink)
-}
-
-/// Writes what is wrong with an input. After a failed read, and when out of memory, nothing is written.
+/// Writes what is wrong with a text. After a failed read, and when out of memory, nothing is written.
 pub fn put_fault<K: Sink>(alloc: Global, fault: TextFault, sink: &mut K) -> Status
     ensures { PutsFault fault result (K.taken sink.old) (K.taken sink.new) (K.faults sink.old)
         (K.faults sink.new) }
@@ -94,5 +78,16 @@ pub fn put_fault<K: Sink>(alloc: Global, fault: TextFault, sink: &mut K) -> Stat
         TextFault::TooLong => put_too_long(sink),
         TextFault::Read => Status::Read,
         TextFault::NoMemory => Status::Memory,
+    }
+}
+
+/// Writes what is wrong with an input. After a failed read, and when out of memory, nothing is written.
+pub(crate) fn put_input_fault<K: Sink>(alloc: Global, fault: InputFault, sink: &mut K) -> Status
+    ensures { PutsInputFault fault result (K.taken sink.old) (K.taken sink.new) (K.faults sink.old)
+        (K.faults sink.new) }
+{
+    match fault {
+        InputFault::Text(fault) => put_fault(alloc, fault, sink),
+        InputFault::Own { line, code } => put_own_fault(alloc, line, code, sink),
     }
 }

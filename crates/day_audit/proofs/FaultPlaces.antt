@@ -1,6 +1,7 @@
 -- Where a fault that is found in a text stands: a bad line is one that is read, whose end shows, and a text that is too long
 -- has more bytes than may be read.
-use Rattle.std.proofs.Common.{◌≡◌, ℕ, suc, ◌+◌, ◌-◌, ◌<◌, ◌≤◌, ◌⊎◌, inl, inr, Bool, true, false, cond, eqb, ltb, List, [], ◌∷◌, length, drop, get_or, Option, None}
+use Rattle.std.proofs.Common.{◌≡◌, ℕ, suc, ◌+◌, ◌-◌, ◌<◌, ◌≤◌, ◌⊎◌, inl, inr, Bool, true, false, cond, eqb, ltb, List, [], ◌∷◌, length, drop, get_or, Option}
+use Rattle.std.proofs.Common.{None}
 use Rattle.std.proofs.Common.{Some, refl, sym, ap, ◌∙◌, subst, arith}
 use Rattle.std.specs.Prelude.{IsTrue, nat_lt}
 use Rattle.std.specs.List.{onto_first}
@@ -450,7 +451,8 @@ module _ (fault : TextFault) (told : IsOfText fault) where
 
 -- a text that is found to be too long has more bytes than may be read
 pub text_is_long : (text : TextState) → FindsIn text (bad_text TooLong) → text.limit < length text.bytes
-text_is_long text finds = let more : text.limit < size_of (pieces_of text.bytes) = found_shows TooLong tt text finds in omega (arith, more, size_of-pieces text.bytes)
+text_is_long text finds = let more : text.limit < size_of (pieces_of text.bytes) = found_shows TooLong tt text finds in
+    omega (arith, more, size_of-pieces text.bytes)
 
 -- a line that is found to be bad shows its end, or all bytes of the text may be read
 pub bad_line_shows : (text : TextState) (number : ℕ) (code : TextCode) → FindsIn text (bad_text (Bad number code))

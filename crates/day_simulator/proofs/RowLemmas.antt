@@ -33,7 +33,8 @@ step-accepted : (old : Day) (row : Row) (printed : Stated) → fault_of_row old.
 step-accepted old row printed is = ap (step_by old (row_number old) (Some row) printed) is
 
 -- what is known of a row, over its step
-does : (right : Right) (old : Day) (said : Option Row) (new : Day) (before after : List ℕ) (printed : Stated) (proof : List ℕ) (step : Step) → next_step old said printed ≡ step → new ≡ step.day
+does : (right : Right) (old : Day) (said : Option Row) (new : Day) (before after : List ℕ) (printed : Stated) (proof : List ℕ) (step : Step)
+    → next_step old said printed ≡ step → new ≡ step.day
     → after ≡ before ++ row_text new.world.snapshot step.log proof → IsRightLog (λ s stated. right s (held_plan old said) stated proof) new.world step.log
     → DoesRow right old said new before after printed proof
 does right old said new before after printed proof step is day text right_plan =

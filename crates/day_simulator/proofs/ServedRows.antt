@@ -23,7 +23,8 @@ module _ (right : Right) (law : PlannerLaw right) where
       let proof = done.1 in
       let does = done.2 in
       let held = held_plan old said in
-      let is_right = subst (λ (d : Day). IsRightLog (λ s stated. right s held stated proof) d.world (next_step old said printed).log) does.day does.right_plan in
+      let is_right = subst
+      (λ (d : Day). IsRightLog (λ s stated. right s held stated proof) d.world (next_step old said printed).log) does.day does.right_plan in
       subst (λ (d : Day). IsDayServing d (past ++ events_of_log (next_step old said printed).log)) (sym does.day)
       (step-serves (λ s stated. right s held stated proof) (λ s stated h. (law s held stated proof h).feasible) old said printed
       (fault_of_row old.world (row_number old) said) past refl is_right serves)

@@ -1,19 +1,21 @@
 -- What the command `whatif` leaves: what was read and written, and why it ended.
-use Rattle.std.specs.Prelude.{◌≡◌, ℕ, zero, suc, ◌⊎◌, List, [], ◌∷◌, ◌++◌, codes, Option, Some, option_map}
+use Rattle.std.specs.Prelude.{◌≡◌, ℕ, zero, suc, List, [], ◌∷◌, ◌++◌, codes}
 use Rattle.std.specs.Fmt.{signed_decimal}
-use Rattle.std.specs.Io.KnownBytes.{IsAtEnd}
-use Rattle.byte_streams.specs.Streams.{Rose}
 use Rattle.elevator_model.specs.Snapshot.{Snapshot, IsAccepted, car_count, spec_of}
-use Rattle.lift_text.specs.Reading.{reading, whole_text}
+use Rattle.lift_text.specs.Reading.{TextState, reading}
 use Rattle.lift_text.specs.Text.{words, line, newline}
 use Rattle.what_if.specs.declared.extras.Extra.{Extra}
 use Rattle.what_if.specs.declared.extras.Extra.TheVariants.{None as NoExtra, Exact, Between}
 use Rattle.what_if.specs.declared.regrets.Regret.{Regret}
 use Rattle.what_if.specs.WhatIf.{AreEnough, AreExtras, AreSettled, IsRegret, extra_at}
-use Rattle.case_text.specs.declared.ask_faults.AskFault.{AskFault}
-use Rattle.case_text.specs.declared.ask_faults.AskFault.TheVariants.{Text, NothingAsked}
-use Rattle.case_text.specs.AskedCases.{HasAskedCall, IsAskedCaseText, IsAskFault, AskFaultShows}
-use Rattle.command_ends.specs.Ends.{Streams, DueTexts, IsRefusalLine, IsNothingAskedLine, PutsFault, PutsNothingAsked}
+use Rattle.case_text.specs.declared.ask_faults.AskFault.TheVariants.{Text as AskText}
+use Rattle.case_text.specs.AskedCases.{HasAskedCall, IsAskedCaseAlone, IsAskFault, IsNothingAsked}
+use Rattle.command_ends.specs.declared.input_faults.InputFault.{InputFault}
+use Rattle.command_ends.specs.declared.input_faults.InputFault.TheVariants.{Text, Own}
+use Rattle.command_ends.specs.declared.input_faults.OwnCode.TheVariants.{NothingAsked, UsedId, TooManyBanks}
+use Rattle.command_ends.specs.Ends.{Streams}
+use Rattle.command_ends.specs.WholeTexts.{Form}
+use Rattle.command_ends.specs.Runs.{Runs}
 use Rattle.command_ends.specs.declared.status.Status.{Status}
 use Rattle.command_ends.specs.declared.status.Status.TheVariants.{Done, Words, Stopped, Refused, Input, Read, Write, Memory}
 
@@ -56,70 +58,35 @@ IsStatusOf extras Write = ⊥
 IsStatusOf extras Memory = ⊥
 
 -- The text tells what the last call costs with each car, as searches within these limits answer it, and what it costs to
--- send the nearest car.
+-- send the nearest car. Where the limits are enough for each of the searches, none is reached.
 pub record IsTold (s : Snapshot) (rounds most_tours : ℕ) (status : Status) (text : List ℕ) : Type 0 where
   pub extras : List Extra
   pub regret : Regret
   pub are_extras : AreExtras s rounds most_tours extras
   pub is_regret : IsRegret s extras regret
   pub status_is : IsStatusOf extras status
+  pub enough : AreEnough s rounds most_tours → status ≡ Done
   pub is_text : text ≡ what_if_text s extras regret
 
 -- ---- how the command ends
 
--- The text is due where the whole input was read and is a case whose last call is asked about.
-pub record AnswerIsDue (rounds most_tours : ℕ) (left left' : Option (List ℕ)) (status : Status) (text : List ℕ) : Type 0 where
-  pub snapshot : Snapshot
-  pub accepted : IsAccepted snapshot
-  pub asked : HasAskedCall snapshot
-  pub read : (input : List ℕ) → left ≡ Some input → IsAskedCaseText input snapshot
-  pub ended : IsAtEnd left'
-  pub told : IsTold snapshot rounds most_tours status text
+-- what is wrong with a text that says no such case
+abbrev pub IsUnasked : TextState → InputFault → Type 0
+IsUnasked text (Text fault) = IsAskFault (reading text) (AskText fault)
+IsUnasked text (Own line NothingAsked) = IsNothingAsked (reading text) line
+IsUnasked text (Own line UsedId) = ⊥
+IsUnasked text (Own line TooManyBanks) = ⊥
 
--- the line that tells the first bad line and its code, that the input is too long, or that nothing can be asked about
-abbrev pub IsAskRefusal : AskFault → List ℕ → Type 0
-IsAskRefusal (Text fault) text = IsRefusalLine fault text
-IsAskRefusal (NothingAsked line) text = IsNothingAskedLine line text
+-- a text that says a case whose last call is asked about, or what is wrong with it
+abbrev pub asked_form : Form Snapshot
+asked_form = record {
+  Meaning = Snapshot;
+  says = λ text s. IsAskedCaseAlone (reading text) s;
+  wrong = IsUnasked;
+  means = λ snapshot s. snapshot ≡ s;
+  right = λ s. IsAccepted s × HasAskedCall s;
+}
 
--- The refusal line is due where the input is no such text, with what is wrong with it, and where the end of the line that
--- it names shows in the bytes that were taken.
-pub record RefusalIsDue (left left' : Option (List ℕ)) (text : List ℕ) : Type 0 where
-  pub fault : AskFault
-  pub is_line : IsAskRefusal fault text
-  pub read : (input : List ℕ) → left ≡ Some input → IsAskFault (reading (whole_text input)) fault
-  pub shows : AskFaultShows (option_map whole_text left) fault left'
-
--- the texts of `whatif`, by what the source had left before it and has left behind it
-abbrev pub WhatIfDue : (rounds most_tours : ℕ) → (left left' : Option (List ℕ)) → DueTexts
-WhatIfDue rounds most_tours left left' Done text = AnswerIsDue rounds most_tours left left' Done text
-WhatIfDue rounds most_tours left left' Words text = ⊥
-WhatIfDue rounds most_tours left left' Stopped text = AnswerIsDue rounds most_tours left left' Stopped text
-WhatIfDue rounds most_tours left left' Refused text = ⊥
-WhatIfDue rounds most_tours left left' Input text = RefusalIsDue left left' text
-WhatIfDue rounds most_tours left left' Read text = ⊥
-WhatIfDue rounds most_tours left left' Write text = ⊥
-WhatIfDue rounds most_tours left left' Memory text = ⊥
-
--- how an input is answered that was not taken
-abbrev pub PutsAskFault : AskFault → (result : Status) → (old new : Option (List ℕ)) → (before after : ℕ) → Type 0
-PutsAskFault (Text fault) result old new before after = PutsFault fault result old new before after
-PutsAskFault (NothingAsked line) result old new before after = PutsNothingAsked line result old new before after
-
--- ---- when it ends so
-
--- It is told what the last call costs with each car, or memory is wanting; and where the limits are enough for each of the
--- searches, no limit is reached.
-pub record IsAnswered (s : Snapshot) (rounds most_tours : ℕ) (status : Status) : Type 0 where
-  pub ended : (status ≡ Done) ⊎ (status ≡ Stopped) ⊎ (status ≡ Memory)
-  pub enough : AreEnough s rounds most_tours → (status ≡ Done) ⊎ (status ≡ Memory)
-
--- the input is a case whose last call is asked about, so it is answered, unless the source or the sink fails or memory is
--- wanting
-abbrev pub AnswersAsked : (rounds most_tours : ℕ) → (old new : Streams) → Status → Type 0
-AnswersAsked rounds most_tours old new status = (input : List ℕ) (s : Snapshot) → old.left ≡ Some input → IsAskedCaseText input s
-    → (Rose old.read_faults new.read_faults → ⊥) → (Rose old.write_faults new.write_faults → ⊥) → IsAnswered s rounds most_tours status
-
--- the input is nothing of the kind, so it is refused, unless the source or the sink fails or memory is wanting
-abbrev pub RefusesUnasked : (old new : Streams) → Status → Type 0
-RefusesUnasked old new status = (input : List ℕ) → old.left ≡ Some input → ((s : Snapshot) → IsAskedCaseText input s → ⊥)
-    → (Rose old.read_faults new.read_faults → ⊥) → (Rose old.write_faults new.write_faults → ⊥) → (status ≡ Input) ⊎ (status ≡ Memory)
+-- It is told what the last call of such a case costs, and any other input is refused.
+abbrev pub RunsWhatIf : (rounds most_tours : ℕ) → (old new : Streams) → Status → Type 0
+RunsWhatIf rounds most_tours old new status = Runs asked_form (λ s. IsTold s rounds most_tours) old new status

@@ -16,11 +16,10 @@
 //! code, that it is too long, or that it has no call that can be asked about. Such a case and no fault give
 //! status 0, 3 or 8; any other input and no fault give 5 or 8. Each status says what was read and written.
 //!
-//! `specs/TableOutcome.antt` has the definitions of `table`: `ends` says for each status what was read and
-//! written (`TableDue`), `tables` that a table is answered (`Tables`), `refuses` that any other input is
-//! refused (`RefusesTables`). `specs/WhatIfOutcome.antt` has those of `whatif`: its text (`what_if_text`,
-//! worked in `specs/WorkedTexts.antt`), `ends` (`WhatIfDue`), `answers` (`AnswersAsked`), that such a case is
-//! answered, and `refuses` (`RefusesUnasked`).
+//! Both are commands of the frame of `command_ends` (`Runs`). `specs/TableOutcome.antt` says which texts are
+//! tables (`table_form`) and what is told of one (`IsToldOf`), `specs/WhatIfOutcome.antt` which are cases whose
+//! last call is asked about (`asked_form`) and what is told of one (`IsTold`), with the text (`what_if_text`,
+//! worked in `specs/WorkedTexts.antt`).
 #![tactic(auto)]
 
 mod asking;

@@ -12,9 +12,9 @@
 //! too long. Such an input and no fault give status 0, 3 or 8; any other input and no fault give 5 or 8. Each
 //! status says what was read and written; nothing is written before all banks have ended.
 //!
-//! `specs/BanksOutcome.antt` has the definitions: the text (`banks_text`, worked in `specs/WorkedTexts.antt`),
-//! `ends` (`BanksDue`), `answers` (`AnswersBanks`), that such an input is answered, and `refuses`
-//! (`RefusesBanks`).
+//! It is a command of the frame of `command_ends` (`Runs`). `specs/BanksOutcome.antt` says which texts are banks
+//! (`banks_form`) and what is told of them (`AreTold`), with the text (`banks_text`, worked in
+//! `specs/WorkedTexts.antt`).
 #![tactic(auto)]
 
 mod banking;

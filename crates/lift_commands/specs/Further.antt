@@ -8,51 +8,30 @@ use Rattle.lift_words.specs.Taken.{AreTaken}
 use Rattle.lift_words.specs.declared.request.Request.TheVariants.{Day, Report, Table, WhatIf, Banks, Root, Audit}
 use Rattle.command_ends.specs.Ends.{Streams, Ends}
 use Rattle.command_ends.specs.declared.status.Status.{Status}
-use Rattle.further_commands.specs.TableOutcome.{RefusesTables, TableDue, Tables}
-use Rattle.further_commands.specs.WhatIfOutcome.{AnswersAsked, RefusesUnasked, WhatIfDue}
-use Rattle.group_commands.specs.BanksOutcome.{AnswersBanks, BanksDue, RefusesBanks}
-use Rattle.root_command.specs.RootOutcome.{AnswersRoot, RefusesRoot, RootDue}
+use Rattle.further_commands.specs.TableOutcome.{RunsTable}
+use Rattle.further_commands.specs.WhatIfOutcome.{RunsWhatIf}
+use Rattle.group_commands.specs.BanksOutcome.{RunsBanks}
+use Rattle.root_command.specs.RootOutcome.{RunsRoot}
 use Rattle.audit_command.specs.AuditOutcome.{AuditDue, EndsAudits}
-
--- what was read and written, and that a table is judged and anything else refused
-pub record RunsTable (old new : Streams) (status : Status) : Type 0 where
-  pub ends : Ends (TableDue old.left new.left) old new status
-  pub tables : Tables old new status
-  pub refuses : RefusesTables old new status
 
 -- words of `table` judge a table
 abbrev pub TablesByWords : List (List ℕ) → (old new : Streams) → Status → Type 0
 TablesByWords words old new status = AreTaken words Table → RunsTable old new status
 
--- what was read and written, and that a case whose last call is asked about is answered and anything else refused
-pub record RunsWhatIf (options : SearchOptions) (old new : Streams) (status : Status) : Type 0 where
-  pub ends : Ends (WhatIfDue options.limits.rounds options.limits.most_tours old.left new.left) old new status
-  pub answers : AnswersAsked options.limits.rounds options.limits.most_tours old new status
-  pub refuses : RefusesUnasked old new status
-
 -- words of `whatif` tell what the last call of a case costs
 abbrev pub WhatIfByWords : List (List ℕ) → (old new : Streams) → Status → Type 0
-WhatIfByWords words old new status = (options : SearchOptions) → AreTaken words (WhatIf options) → RunsWhatIf options old new status
-
--- what was read and written, and that the text of banks is answered and anything else refused
-pub record RunsBanks (options : SearchOptions) (old new : Streams) (status : Status) : Type 0 where
-  pub ends : Ends (BanksDue options.limits.rounds options.limits.most_tours old.left new.left) old new status
-  pub answers : AnswersBanks old new status
-  pub refuses : RefusesBanks old new status
+WhatIfByWords words old new status = (options : SearchOptions) → AreTaken words (WhatIf options)
+    → RunsWhatIf options.limits.rounds options.limits.most_tours old new status
 
 -- words of `banks` run the days of banks
 abbrev pub BanksByWords : List (List ℕ) → (old new : Streams) → Status → Type 0
-BanksByWords words old new status = (options : SearchOptions) → AreTaken words (Banks options) → RunsBanks options old new status
-
--- what was read and written, and that a case is answered and anything else refused
-pub record RunsRoot (options : RootOptions) (old new : Streams) (status : Status) : Type 0 where
-  pub ends : Ends (RootDue options.limits.rounds options.limits.most_tours old.left new.left) old new status
-  pub answers : AnswersRoot old new status
-  pub refuses : RefusesRoot old new status
+BanksByWords words old new status = (options : SearchOptions) → AreTaken words (Banks options)
+    → RunsBanks options.limits.rounds options.limits.most_tours old new status
 
 -- words of `root` tell what prices at the root can prove
 abbrev pub RootByWords : List (List ℕ) → (old new : Streams) → Status → Type 0
-RootByWords words old new status = (options : RootOptions) → AreTaken words (Root options) → RunsRoot options old new status
+RootByWords words old new status = (options : RootOptions) → AreTaken words (Root options)
+    → RunsRoot options.limits.rounds options.limits.most_tours old new status
 
 -- what was read and written, and that a log is judged or the input refused
 pub record RunsAudit (old new : Streams) (status : Status) : Type 0 where

@@ -118,15 +118,14 @@
 //!   report (`ReportDue`).
 //! - `tables`: by words of `table`, what was read and written with each status, that a table is judged and any
 //!   other input refused, unless the source or the sink fails or memory runs out (`RunsTable`).
-//! - `what_if`: by words of `whatif`, what was read and written with each status (`WhatIfDue`), that a case
-//!   whose last call is asked about is answered, and any other input refused, unless the source or the sink
-//!   fails or memory runs out (`RunsWhatIf`).
-//! - `banks`: by words of `banks`, what was read and written with each status (`BanksDue`), that the text of
-//!   banks is answered, and any other input refused, unless the source or the sink fails or memory runs out
-//!   (`RunsBanks`).
-//! - `at_root`: by words of `root`, what was read and written with each status (`RootDue`), that a case is
+//! - `what_if`: by words of `whatif`, what was read and written with each status, that a case whose last call
+//!   is asked about is answered, and any other input refused, unless the source or the sink fails or memory
+//!   runs out (`RunsWhatIf`).
+//! - `banks`: by words of `banks`, what was read and written with each status, that the text of banks is
 //!   answered, and any other input refused, unless the source or the sink fails or memory runs out
-//!   (`RunsRoot`).
+//!   (`RunsBanks`).
+//! - `at_root`: by words of `root`, what was read and written with each status, that a case is answered, and
+//!   any other input refused, unless the source or the sink fails or memory runs out (`RunsRoot`).
 //! - `audits`: by words of `audit`, what was read and written with each status (`AuditDue`), and that a log is
 //!   judged or the input refused, unless the source or the sink fails or memory runs out (`RunsAudit`).
 //! - `refuses_words`: all other words and no fault of the sink give Words or Memory.
@@ -134,9 +133,9 @@
 //!   too, with every status.
 //!
 //! A further command has its words in `lift_words` and its function in a crate of its own on `command_ends`,
-//! which says how any command ends. Here it takes one arm of `run` and a clause of its own by its words, as
-//! `day` has (`DaysByWords`); its words are left out of `ends` as those of `day` are (`AskOthers`), and
-//! `ReadsNothing` says whether they ask for input.
+//! which says how any command ends, and all of one that reads a whole text (`Runs`). Here it takes one arm of
+//! `run` and a clause of its own by its words, as `day` has (`DaysByWords`); its words are left out of `ends`
+//! as those of `day` are (`AskOthers`), and `ReadsNothing` says whether they ask for input.
 #![tactic(auto)]
 
 mod running;

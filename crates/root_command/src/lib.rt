@@ -11,10 +11,8 @@
 //! too long. A case and no fault give status 0, 3 or 8; any other input and no fault give 5 or 8. Each status
 //! says what was read and written.
 //!
-//! `specs/RootTexts.antt` has the text (`root_text`, worked in `specs/WorkedTexts.antt`), and
-//! `specs/RootOutcome.antt` the definitions: `ends` says for each status what was read and written
-//! (`RootDue`), `answers` that a case is answered (`AnswersRoot`), and `refuses` that any other input is
-//! refused (`RefusesRoot`).
+//! It is a command of the frame of `command_ends` (`Runs`). `specs/RootTexts.antt` has the text (`root_text`,
+//! worked in `specs/WorkedTexts.antt`), and `specs/RootOutcome.antt` what is told (`IsRootTold`).
 #![tactic(auto)]
 
 mod rooting;

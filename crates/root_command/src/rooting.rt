@@ -1,50 +1,25 @@
 //! The command `root`.
-ghost use Rattle.std.specs.Prelude.{◌≡◌, ◌≤◌, IfErr, IfOk, OnOk, IsErrOf, option_map};
-ghost use Rattle.std.specs.Io.KnownBytes.{IsAtEnd};
-ghost use Rattle.byte_streams.specs.Streams.{Rose};
-ghost use Rattle.elevator_model.specs.Snapshot.{IsAccepted};
-ghost use Rattle.lift_text.specs.Reading.{whole_text};
-ghost use Rattle.lift_text.specs.Shows.{FaultShows};
-ghost use Rattle.case_text.specs.CaseTexts.{IsReadAlone, IsRefusedAlone, TakesLoneCases};
-ghost use Rattle.command_ends.specs.Ends.{Ends, streams};
-ghost use Rattle.root_command.specs.RootOutcome.{AnswersRoot, IsRootTold, RefusesRoot, RootDue};
-ghost use Rattle.root_command.specs.RootOutcome.{status_of as status_of_lem};
+ghost use Rattle.std.specs.Prelude.{◌≡◌, ◌≤◌, IfOk};
+ghost use Rattle.root_prices.specs.declared.answers.TheConstants.{MOST_ROUNDS};
+ghost use Rattle.command_ends.specs.Ends.{streams};
+ghost use Rattle.command_ends.specs.Runs.{IsOfAnswer};
+ghost use Rattle.root_command.specs.RootOutcome.{IsRootTold, RunsRoot, status_of as status_of_lem};
 
 use crate::writing::root_text;
 use byte_streams::{Sink, Source};
 use call_state::Snapshot;
 use case_text::read_lone_case;
-use command_ends::{Answer, Status, put, put_fault};
-use lift_text::{LineReader, TextFault};
+use command_ends::{Answer, Command, InputFault, Status, WholeText, run_command};
+use lift_text::LineReader;
 use root_prices::{MOST_ROUNDS, RootReason};
 use search_model::Limits;
 use snapshot_solver::solve_root;
 use std::alloc::{AllocError, Global};
 
-/// The snapshot that the whole input is the text of.
-fn read_input<S: Source>(alloc: Global, source: &mut S) -> Result<Snapshot, TextFault>
-    ensures case { IfOk result (IsReadAlone (option_map whole_text (S.left source.old))) }
-    ensures refused { IfErr result (IsRefusedAlone (option_map whole_text (S.left source.old))) }
-    ensures takes { TakesLoneCases (option_map whole_text (S.left source.old)) result }
-    ensures accepted { IfOk result IsAccepted }
-    ensures ended { OnOk result (IsAtEnd (S.left source.new)) }
-    ensures shows { IfErr result (λ fault.
-        FaultShows (option_map whole_text (S.left source.old)) fault (S.left source.new)) }
-    ensures read { IsErrOf result TextFault.Read
-        → Rose (S.faults source.old) (S.faults source.new) }
-{
-    let mut lines = match LineReader::new(alloc, source) {
-        Ok(lines) => lines,
-        Err(_) => return Err(TextFault::NoMemory),
-    };
-    let read = read_lone_case(alloc, &mut lines);
-    lines.into_source();
-    read
-}
-
 /// The status with which this is told.
 fn status_of(why: RootReason) -> Status
-    ensures { result ≡ status_of_lem why }
+    ensures is { result ≡ status_of_lem why }
+    ensures answers { IsOfAnswer result }
 {
     match why {
         RootReason::Best => Status::Done,
@@ -55,13 +30,51 @@ fn status_of(why: RootReason) -> Status
 /// The text of what turns at the root tell, and its status. It fails only where there is no memory left.
 fn answer_of(alloc: Global, limits: Limits, snapshot: &Snapshot) -> Result<Answer, AllocError>
     requires { limits.rounds ≤ MOST_ROUNDS }
-    ensures { IfOk result (λ answer.
+    ensures told { IfOk result (λ answer.
         IsRootTold snapshot.now limits.rounds limits.most_tours answer.status answer.text.items) }
+    ensures status { IfOk result (λ answer. IsOfAnswer answer.status) }
 {
     let answer = solve_root(alloc, snapshot, limits)?;
     let text = root_text(alloc, snapshot, &answer)?;
     let status = status_of(answer.why);
     Ok(Answer { status, text })
+}
+
+/// Tells of cases what as many turns at the root as the limits have rounds can prove, within their limit of
+/// partial tours.
+#[derive(Clone, Copy)]
+struct AtRoot {
+    limits: Limits,
+    ghost few: { limits.rounds ≤ MOST_ROUNDS },
+}
+
+impl WholeText for AtRoot {
+    ghost use Rattle.command_ends.specs.WholeTexts.{case_form};
+
+    type Value = Snapshot;
+
+    ghost form = { λ _. case_form };
+
+    fn read<S: Source>(
+        &self,
+        alloc: Global,
+        lines: &mut LineReader<S>,
+    ) -> Result<Snapshot, InputFault> {
+        match read_lone_case(alloc, lines) {
+            Ok(snapshot) => Ok(snapshot),
+            Err(fault) => Err(InputFault::Text(fault)),
+        }
+    }
+}
+
+impl Command for AtRoot {
+    ghost use Rattle.root_command.specs.RootOutcome.{IsRootTold};
+
+    ghost told = { λ it s. IsRootTold s it.limits.rounds it.limits.most_tours };
+
+    fn answer(&self, alloc: Global, snapshot: &Snapshot) -> Result<Answer, AllocError> {
+        answer_of(alloc, self.limits, snapshot)
+    }
 }
 
 /// Reads a case, and writes the best prices of as many turns at the root as the limits have rounds and the
@@ -75,25 +88,11 @@ pub fn root<S: Source, K: Sink>(
     sink: &mut K,
 ) -> Status
     requires { limits.rounds ≤ MOST_ROUNDS }
-    ensures ends { Ends
-        (RootDue limits.rounds limits.most_tours (S.left source.old) (S.left source.new))
-        (streams (S.left source.old) (K.taken sink.old) (S.faults source.old) (K.faults sink.old))
-        (streams (S.left source.new) (K.taken sink.new) (S.faults source.new)
-        (K.faults sink.new)) result }
-    ensures answers { AnswersRoot
-        (streams (S.left source.old) (K.taken sink.old) (S.faults source.old) (K.faults sink.old))
-        (streams (S.left source.new) (K.taken sink.new) (S.faults source.new)
-        (K.faults sink.new)) result }
-    ensures refuses { RefusesRoot
+    ensures { RunsRoot limits.rounds limits.most_tours
         (streams (S.left source.old) (K.taken sink.old) (S.faults source.old) (K.faults sink.old))
         (streams (S.left source.new) (K.taken sink.new) (S.faults source.new)
         (K.faults sink.new)) result }
 {
-    match read_input(alloc, source) {
-        Ok(snapshot) => match answer_of(alloc, limits, &snapshot) {
-            Ok(answer) => put(sink, answer.text.as_slice(), answer.status),
-            Err(_) => Status::Memory,
-        },
-        Err(fault) => put_fault(alloc, fault, sink),
-    }
+    let command = AtRoot { limits };
+    run_command(alloc, &command, source, sink)
 }

@@ -14,7 +14,9 @@ use Rattle.case_commands.specs.CheckOutcome.{CheckDue}
 use Rattle.case_commands.specs.MakeOutcome.{IsCaseSolved, MakeDue, SolvedCaseDue}
 use Rattle.lift_commands.specs.Outcome.{RunDue, UsageIsDue, usage_line}
 use Rattle.day_commands.specs.DayOutcome.{ReportsDay, RunsDay}
-use Rattle.lift_commands.specs.Further.{RunsBanks, RunsRoot, RunsWhatIf}
+use Rattle.further_commands.specs.WhatIfOutcome.{RunsWhatIf}
+use Rattle.root_command.specs.RootOutcome.{RunsRoot}
+use Rattle.group_commands.specs.BanksOutcome.{RunsBanks}
 use Rattle.day_commands.proofs.DayOutcomes.{plain-within}
 use Rattle.lift_commands.proofs.Outcomes.{solve_due, check_due, make_due, solved_case_due, not_run_and_make}
 use Rattle.lift_commands.proofs.running.run.Goals as goal
@@ -166,9 +168,7 @@ returns-in-Ok-Table-clause-ends g c = λ none.
     absurd (none.no_table (subst (AreTaken (map string_bytes c.args.words.now)) c.in-Ok-Table.field-0-is c.in-Ok-Table.ensures.taken))
 
 pub returns-in-Ok-Table-clause-tables : goal.returns-in-Ok-Table-clause-tables
-returns-in-Ok-Table-clause-tables g c taken =
-    let ensures = c.table.ensures in
-    record { ends = ensures.ends; tables = ensures.tables; refuses = ensures.refuses }
+returns-in-Ok-Table-clause-tables g c taken = c.table.ensures
 
 pub returns-in-Ok-WhatIf-clause-ends : goal.returns-in-Ok-WhatIf-clause-ends
 returns-in-Ok-WhatIf-clause-ends g c = λ none.
@@ -183,9 +183,7 @@ returns-in-Ok-WhatIf-clause-what_if g c options taken =
     (g.K.Sink.faults c.args.sink.now) in
     let new = streams (g.S.Source.left c.whatif.new.source) (g.K.Sink.taken c.whatif.new.sink) (g.S.Source.faults c.whatif.new.source)
     (g.K.Sink.faults c.whatif.new.sink) in
-    let ensures = c.whatif.ensures in
-    subst (λ (o : SearchOptions). RunsWhatIf o old new c.whatif.result) (sym is)
-    (record { ends = ensures.ends; answers = ensures.answers; refuses = ensures.refuses })
+    subst (λ (o : SearchOptions). RunsWhatIf o.limits.rounds o.limits.most_tours old new c.whatif.result) (sym is) c.whatif.ensures
 
 pub returns-in-Err-NotTaken-clause-what_if : goal.returns-in-Err-NotTaken-clause-what_if
 returns-in-Err-NotTaken-clause-what_if g c = λ options taken.
@@ -203,9 +201,7 @@ returns-in-Ok-Banks-clause-banks g c options taken =
     (g.K.Sink.faults c.args.sink.now) in
     let new = streams (g.S.Source.left c.banks.new.source) (g.K.Sink.taken c.banks.new.sink) (g.S.Source.faults c.banks.new.source)
     (g.K.Sink.faults c.banks.new.sink) in
-    let ensures = c.banks.ensures in
-    subst (λ (o : SearchOptions). RunsBanks o old new c.banks.result) (sym is)
-    (record { ends = ensures.ends; answers = ensures.answers; refuses = ensures.refuses })
+    subst (λ (o : SearchOptions). RunsBanks o.limits.rounds o.limits.most_tours old new c.banks.result) (sym is) c.banks.ensures
 
 pub returns-in-Err-NotTaken-clause-banks : goal.returns-in-Err-NotTaken-clause-banks
 returns-in-Err-NotTaken-clause-banks g c = λ options taken.
@@ -227,9 +223,7 @@ returns-in-Ok-Root-clause-at_root g c options taken =
     (g.K.Sink.faults c.args.sink.now) in
     let new = streams (g.S.Source.left c.root.new.source) (g.K.Sink.taken c.root.new.sink) (g.S.Source.faults c.root.new.source)
     (g.K.Sink.faults c.root.new.sink) in
-    let ensures = c.root.ensures in
-    subst (λ (o : RootOptions). RunsRoot o old new c.root.result) (sym is)
-    (record { ends = ensures.ends; answers = ensures.answers; refuses = ensures.refuses })
+    subst (λ (o : RootOptions). RunsRoot o.rounds o.moves old new c.root.result) (sym is) c.root.ensures
 
 pub returns-in-Err-NotTaken-clause-at_root : goal.returns-in-Err-NotTaken-clause-at_root
 returns-in-Err-NotTaken-clause-at_root g c = λ options taken.

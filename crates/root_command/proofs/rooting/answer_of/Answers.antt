@@ -12,6 +12,7 @@ root_text-requires-clause-shares c =
     let answer = c.in_ok-answer.answer in
     shares_board c.args.snapshot.now answer.shares 2 answer.cost c.in_ok-answer.ensures.answer.mixture
 
-pub returns : goal.returns
-returns c = is_told c.args.snapshot.now c.args.limits.rounds c.args.limits.most_tours c.in_ok-answer.answer c.status_of-status.result c.in_ok-text.text.items
-    c.in_ok-answer.ensures c.status_of-status.ensures c.in_ok-text.ensures
+pub returns-clause-told : goal.returns-clause-told
+returns-clause-told c =
+    is_told c.args.snapshot.now c.args.limits.rounds c.args.limits.most_tours c.in_ok-answer.answer c.status_of-status.result c.in_ok-text.text.items
+    c.in_ok-answer.ensures c.status_of-status.ensures.is c.in_ok-text.ensures
