@@ -8,7 +8,7 @@ use Rattle.day_simulator.proofs.days.write_accepted.Goals as goal
 
 pub add_plan-requires : goal.add_plan-requires
 add_plan-requires g c =
-    let proof = appended_bytes c.add_accepted.new.out.items c.plan-stated.new.log.items in
+    let proof = appended_bytes c.add_accepted.new.out.items c.plan.new.log.items in
     (c.requires.sound c.snapshot-snapshot.result.now c.plan-held.result.now c.in_ok-stated.stated proof c.in_ok-stated.ensures.planned).feasible
 
 pub returns-clause-row : goal.returns-clause-row
@@ -19,7 +19,7 @@ returns-clause-row g c =
     let stated = c.in_ok-stated.stated in
     let old = c.args.out.now.items in
     let front = c.add_accepted.new.out.items in
-    let all = c.plan-stated.new.log.items in
+    let all = c.plan.new.log.items in
     let proof = appended_bytes front all in
     let counted : c.len-place.result ≡ length front = search rules in
     record {

@@ -223,7 +223,7 @@ returns-in-Ok-Root-clause-at_root g c options taken =
     (g.K.Sink.faults c.args.sink.now) in
     let new = streams (g.S.Source.left c.root.new.source) (g.K.Sink.taken c.root.new.sink) (g.S.Source.faults c.root.new.source)
     (g.K.Sink.faults c.root.new.sink) in
-    subst (λ (o : RootOptions). RunsRoot o.rounds o.moves old new c.root.result) (sym is) c.root.ensures
+    subst (λ (o : RootOptions). RunsRoot o.limits.rounds o.limits.most_tours old new c.root.result) (sym is) c.root.ensures
 
 pub returns-in-Err-NotTaken-clause-at_root : goal.returns-in-Err-NotTaken-clause-at_root
 returns-in-Err-NotTaken-clause-at_root g c = λ options taken.
