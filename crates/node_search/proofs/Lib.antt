@@ -11,3 +11,4 @@ pub mod RootDue
 pub mod RootStart
 pub mod ReasonLaws
 pub mod ToldLaws
+pub mod EnoughLaws

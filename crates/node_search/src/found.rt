@@ -8,6 +8,7 @@ ghost use Rattle.search_model.specs.Sums.{rounded_up};
 ghost use Rattle.search_model.specs.Nodes.{root_of};
 ghost use Rattle.search_model.specs.declared.StopReason.TheVariants.{Solved, Told};
 ghost use Rattle.search_model.specs.Solving.{IsFound, IsSearchAnswer, IsToldAnswer};
+ghost use Rattle.search_model.specs.Verdicts.{rounds_enough, tours_enough};
 ghost use Rattle.search_tree.specs.Sheets.{IsSizedTwig, PriceSheet, sum_of_sheet};
 ghost use Rattle.search_tree.specs.Branches.{at_place};
 ghost use Rattle.search_tree.specs.Standing.{IsSheetIn, bound_of_sheet};
@@ -402,9 +403,9 @@ fn find_at<P: Pricer, C: PricingCrew<P>, G: Gate>(
 /// It starts with turns at the root: up to 20 pricings of all cars, at prices that move from turn to turn.
 /// Then rounds each price a few leaves of the tree, which are split in time, until cost and bound are the
 /// same, as many rounds were done as `limits` allows, or nothing is left to split. Where the last two come
-/// together, the reason is that nothing is left: `Moves`. Each price and each worth of the tree lies in its
-/// range. The runtime's gate is told how far the search has come. It fails only where there is no memory
-/// left.
+/// together, the reason is that nothing is left: `Moves`. Where the limits are enough for the snapshot none is
+/// reached. Each price and each worth of the tree lies in its range. The runtime's gate is told how far the
+/// search has come. It fails only where there is no memory left.
 pub fn find_plan<P: Pricer, C: PricingCrew<P>, G: Gate>(
     runtime: &Runtime<C, G>,
     snapshot: &Snapshot,
@@ -424,7 +425,12 @@ pub fn find_plan<P: Pricer, C: PricingCrew<P>, G: Gate>(
         → IfOk result (λ f. f.why ≡ Told → ⊥) }
     ensures why { IfOk result (HasReason snapshot.now limits.rounds limits.most_tours sheet) }
     ensures sized { IfOk result (λ f. All IsSizedTwig f.tree.twigs) }
+    ensures enough { G.never_stops runtime.now.gate.now
+        → rounds_enough snapshot.now ≤ limits.rounds → tours_enough snapshot.now ≤ limits.most_tours
+        → IfOk result (λ f. f.why ≡ Solved) }
 {
+    // For the proof: a reader tells that the snapshot keeps the rules.
+    let _moment = snapshot.now();
     let mut desks = desks_for(runtime.alloc, pricer, runtime.workers.count())?;
     find_at(runtime, snapshot, pricer, start, sheet, limits, &mut desks)
 }

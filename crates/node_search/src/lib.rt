@@ -11,8 +11,9 @@
 //!   by their rule of steps, none of whose bounds is greater, and no cheaper plan made of their tours
 //!   (`IsFound` of `search_model`). And why it ended: solved, the rounds used up, or a car with as many
 //!   partial tours as the limit in a node in which each call has one car left; where that holds of the last
-//!   state and nothing is left to price, it is the car, also where the rounds are used up (`HasReason`). It
-//!   states no claims. The gate is told how far the search has come; no answer depends on it.
+//!   state and nothing is left to price, it is the car, also where the rounds are used up (`HasReason`). Where
+//!   the limits are enough for the snapshot and the gate never stops it, it is solved. It states no claims. The
+//!   gate is told how far the search has come; no answer depends on it.
 //!
 //! # How it goes
 //!

@@ -2,5 +2,4 @@ pub mod LeastLemmas
 pub mod SumLemmas
 pub mod StartBound
 pub mod StartSheet
-pub mod FewTours
 pub mod SolveLaws

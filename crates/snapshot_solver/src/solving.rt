@@ -12,7 +12,7 @@ use crate::gates::Unasked;
 use crate::starts::start_sheet;
 use byte_streams::{Gate, OpenGate};
 use call_state::Snapshot;
-use elevator_model::{MOST_CALLS, Plan};
+use elevator_model::Plan;
 use first_plan::{DEFAULT_ROUNDS, first};
 use node_search::{Found, find_plan};
 use pricing_search::Searcher;
@@ -45,7 +45,6 @@ pub fn solve_from<C: SearchCrew, G: Gate>(
         → rounds_enough snapshot.now ≤ limits.rounds → tours_enough snapshot.now ≤ limits.most_tours
         → IfOk result (λ f. f.why ≡ Solved) }
 {
-    prove!(snapshot.calls().len() <= MOST_CALLS);
     let sheet = start_sheet(runtime.alloc, snapshot)?;
     let searcher = Searcher::new(snapshot);
     let by_crew = ByCrew { crew: runtime.crew };

@@ -1,13 +1,11 @@
 use Rattle.std.proofs.Common.{◌≡◌, List, ap, ◌∙◌, subst}
 use Rattle.std.specs.Prelude.{ℤ, pos}
-use Rattle.search_model.specs.declared.StopReason.TheVariants.{Solved, Told}
+use Rattle.search_model.specs.declared.StopReason.TheVariants.{Told}
 use Rattle.search_model.specs.Sums.{rounded_up}
 use Rattle.search_model.specs.Solving.{IsSearchAnswer, IsSnapshotAnswer, IsSolveAnswer, start_prices, floor_of_bound}
 use Rattle.search_tree.specs.Sheets.{sum_of_sheet}
-use Rattle.search_tree.proofs.FoundLaws.{enough_is_solved}
 use Rattle.node_search.specs.declared.found.Found.{Found}
 use Rattle.node_search.proofs.ToldLaws.{answer_found}
-use Rattle.snapshot_solver.proofs.FewTours.{few_tours}
 use Rattle.snapshot_solver.proofs.SolveLaws.{rounded_scaled, if_both, if_ok}
 use Rattle.snapshot_solver.proofs.solving.solve_from.Goals as goal
 
@@ -39,11 +37,4 @@ returns-clause-answer g c going =
     c.find_plan.result (returns-clause-any g c) (c.find_plan.ensures.goes_on going)
 
 pub returns-clause-enough : goal.returns-clause-enough
-returns-clause-enough g c going rounds most_tours =
-    let s = c.args.snapshot.now in
-    let Answer : Found → Type 0 =
-    λ f. IsSolveAnswer s c.args.limits.rounds c.args.limits.most_tours f.stated.plan f.stated.cost f.stated.bound f.tree.twigs f.turns f.why in
-    if_ok Answer (λ f. f.why ≡ Solved)
-    (λ f h. (enough_is_solved (start_prices s)
-    (pos (floor_of_bound s)) s c.args.limits.rounds c.args.limits.most_tours f.stated.plan f.stated.cost f.stated.bound f.tree.twigs f.turns f.why
-    c.calls.ensures.accepted (few_tours s) rounds most_tours h).1) c.find_plan.result (returns-clause-answer g c going)
+returns-clause-enough g c = c.find_plan.ensures.enough
