@@ -24,12 +24,9 @@ use Rattle.pricing_bound.specs.LowerLemmas.{bound_is_lower}
 use Rattle.search_tree.specs.Sheets.{AreWorthSizes, IsSizedLeaf, PriceSheet, leaf_with, sum_of_sheet}
 use Rattle.search_tree.specs.Standing.{IsSheetIn}
 use Rattle.search_tree.proofs.LeafFacts.{sum_of_leaf-sheet, price_in-sheet, worth_in-sheet, claim_in-sheet, whole_lists-sheet}
-use Rattle.snapshot_solver.specs.Starts.{IsStartLeaf, start_worth, start_worths, aboard_cost}
+use Rattle.snapshot_solver.specs.Starts.{IsStartLeaf, start_sheet, start_worth, start_worths, aboard_cost}
 use Rattle.snapshot_solver.proofs.SumLemmas.{int_sum_by-below, sum-by_owner}
 use Rattle.snapshot_solver.proofs.StartBound.{bound-start, aboard_cost-size}
-
-abbrev pub start_sheet : Snapshot → PriceSheet
-start_sheet s = record { prices = start_prices s; worths = start_worths s }
 
 worth-at : (s : Snapshot) (c : ℕ) → c < car_count s → get_or (start_worths s) c (pos 0) ≡ start_worth s c
 worth-at s c car = get_or-map-range_with_len (start_worth s) 0 (car_count s) c c (pos 0) car (zero-add c)

@@ -1,3 +1,4 @@
 pub mod Starts
+pub mod Reasons
 pub mod Roots
 pub mod Crews

@@ -11,7 +11,7 @@ use Rattle.search_model.specs.Nodes.{allows, requires_of, root_of}
 use Rattle.search_model.specs.Prices.{IsWorth, price_at, scaled}
 use Rattle.search_model.specs.Solving.{floor_of_bound, start_prices, straight_cost}
 use Rattle.search_model.specs.Verdicts.{kept_at}
-use Rattle.search_tree.specs.Sheets.{IsSizedLeaf}
+use Rattle.search_tree.specs.Sheets.{IsSizedLeaf, PriceSheet}
 
 -- The worth of a car: the completion bound of its empty partial tour in the root, at the prices that the search
 -- starts with.
@@ -21,6 +21,10 @@ start_worth s c = completion_bound s c (price_at (start_prices s)) (allows (root
 -- of the cars, in their order
 abbrev pub start_worths : Snapshot → List ℤ
 start_worths s = map (start_worth s) (range_with_len 0 (car_count s))
+
+-- the prices and worths that a search starts with
+abbrev pub start_sheet : Snapshot → PriceSheet
+start_sheet s = record { prices = start_prices s; worths = start_worths s }
 
 -- The leaf that states these prices and worths: right in the root, where no kept list is longer than its claim, and
 -- its sum is what no plan costs less than.

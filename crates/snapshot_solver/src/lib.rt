@@ -8,11 +8,12 @@
 //!
 //! - `solve` is the search of `node_search` for a snapshot, with the searcher of `pricing_search`, from a
 //!   plan of `first_plan` and from the prices and worths that `start_leaf` states. It answers
-//!   `IsSolveAnswer`, and it ends solved wherever the limits are enough for the snapshot. `solve_from`
-//!   begins with a given plan, and asks a gate whether it may go on: where it was told to stop, all holds
-//!   but the reason that holds of a search which may do some number of rounds, at most the limit
-//!   (`IsSnapshotAnswer`). They state no claims: what states them comes after them. A crew makes their
-//!   pricings (`SearchCrew`), the calling thread alone or one that starts threads.
+//!   `IsSolveAnswer`, with the limit that the state after the last round names (`HasReasonOf`), and it ends
+//!   solved wherever the limits are enough for the snapshot. `solve_from` begins with a given plan, and asks a
+//!   gate whether it may go on: where it was told to stop, all holds but the reason that holds of a search
+//!   which may do some number of rounds, at most the limit (`IsSnapshotAnswer`). They state no claims: what
+//!   states them comes after them. A crew makes their pricings (`SearchCrew`), the calling thread alone or one
+//!   that starts threads.
 //! - `solve_root` makes turns at the root, as many as is asked for, with the same pricer, plan and prices, by
 //!   `root_prices` (`IsRootSolution`).
 //! - `start_leaf` gives the leaf with which a search starts, as a certificate states it: the price of a call

@@ -1,11 +1,12 @@
 //! The cheapest plan of a snapshot.
 
-ghost use Rattle.std.specs.Prelude.{◌≡◌, ◌≤◌, ◌^◌, All, IfOk};
+ghost use Rattle.std.specs.Prelude.{◌≡◌, ◌≤◌, ◌^◌, ◌⊎◌, All, IfOk};
 ghost use Rattle.elevator_model.specs.Plans.{IsFeasiblePlan};
-ghost use Rattle.search_model.specs.declared.StopReason.TheVariants.{Solved};
+ghost use Rattle.search_model.specs.declared.StopReason.TheVariants.{Solved, Told};
 ghost use Rattle.search_model.specs.Solving.{IsSnapshotAnswer, IsSolveAnswer};
 ghost use Rattle.search_model.specs.Verdicts.{tours_enough, rounds_enough};
 ghost use Rattle.search_tree.specs.Sheets.{IsSizedTwig};
+ghost use Rattle.snapshot_solver.specs.Reasons.{HasReasonOf};
 
 use crate::crews::{ByCrew, SearchCrew};
 use crate::gates::Unasked;
@@ -26,8 +27,9 @@ use work_fan::Runtime;
 /// What it answers is a feasible plan with its cost, a bound that no feasible plan's cost is below, and the
 /// tree that proves them, whose prices and worths lie in their ranges. Cost and bound are equal unless a
 /// limit was reached or it was told to stop, and where the limits are enough for the snapshot none is.
-/// Where it was told to stop, all holds but the reason that holds of a search which may do some number of
-/// rounds, at most the limit. It fails only where there is no memory left.
+/// Which limit is named follows from the state after the last round. Where it was told to stop, all holds but
+/// the reason that holds of a search which may do some number of rounds, at most the limit. It fails only
+/// where there is no memory left.
 pub fn solve_from<C: SearchCrew, G: Gate>(
     runtime: &Runtime<C, G>,
     snapshot: &Snapshot,
@@ -40,6 +42,8 @@ pub fn solve_from<C: SearchCrew, G: Gate>(
     ensures answer { G.never_stops runtime.now.gate.now
         → IfOk result (λ f. IsSolveAnswer snapshot.now limits.rounds limits.most_tours
         f.stated.plan f.stated.cost f.stated.bound f.tree.twigs f.turns f.why) }
+    ensures why { IfOk result (λ f. (f.why ≡ Told)
+        ⊎ HasReasonOf snapshot.now limits.rounds limits.most_tours f) }
     ensures sized { IfOk result (λ f. All IsSizedTwig f.tree.twigs) }
     ensures enough { G.never_stops runtime.now.gate.now
         → rounds_enough snapshot.now ≤ limits.rounds → tours_enough snapshot.now ≤ limits.most_tours
@@ -68,6 +72,7 @@ pub fn solve<C: SearchCrew, G: Gate>(
 ) -> Result<Found, AllocError>
     ensures answer { IfOk result (λ f. IsSolveAnswer snapshot.now limits.rounds limits.most_tours
         f.stated.plan f.stated.cost f.stated.bound f.tree.twigs f.turns f.why) }
+    ensures why { IfOk result (HasReasonOf snapshot.now limits.rounds limits.most_tours) }
     ensures sized { IfOk result (λ f. All IsSizedTwig f.tree.twigs) }
     ensures enough { rounds_enough snapshot.now ≤ limits.rounds
         → tours_enough snapshot.now ≤ limits.most_tours
