@@ -12,6 +12,7 @@ use Rattle.search_model.specs.Days.{opening_day}
 use Rattle.search_model.specs.Reports.{report_of}
 use Rattle.service_report.specs.ReportTexts.{report_text}
 use Rattle.day_planner.specs.SolvedRows.{AreEnoughFor, IsSolvedRow}
+use Rattle.day_planner.specs.StoppedRows.{IsStoppedIn}
 use Rattle.day_laws.specs.RowLines.{rows_of}
 use Rattle.day_simulator.specs.RowRuns.{Right}
 use Rattle.day_simulator.specs.TextRuns.{DayRan, IsDayText}
@@ -23,7 +24,7 @@ use Rattle.lift_words.specs.Taken.{most_claims}
 use Rattle.command_ends.specs.Ends.{Streams, Ends, Puts, IsRefusalLine}
 use Rattle.command_ends.specs.declared.status.Status.{Status}
 use Rattle.command_ends.specs.declared.status.Status.TheVariants.{Done, Words, Stopped, Refused, Input, Read, Write, Memory}
-use Rattle.day_commands.specs.DayRows.{AreRowsKept, IsStoppedIn}
+use Rattle.day_commands.specs.DayRows.{AreRowsKept}
 
 -- ---- days
 

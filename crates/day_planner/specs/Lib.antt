@@ -1,1 +1,2 @@
 pub mod SolvedRows
+pub mod StoppedRows

@@ -8,6 +8,8 @@
 //!   bound, and where the limits are enough for the snapshot the cost is the bound. Where certificates are
 //!   wanted it appends the plan as an answer with the certificate that proves the bound, whose claims are within
 //!   a limit; the bound is the search's own where its claims are (`IsCertifiedRow`). Or it is out of memory.
+//! - Where such rows leave one whose bound is below its cost, the limits are not enough for the snapshot of some
+//!   row (`IsStoppedIn`, in `specs/StoppedRows.antt`; the lemma is `stopped-rows`).
 //!
 //! Moments are in ms, costs in cost units.
 #![tactic(auto)]
