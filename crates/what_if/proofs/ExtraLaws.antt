@@ -19,6 +19,7 @@ use Rattle.what_if.specs.declared.extras.Searched.{Searched}
 use Rattle.what_if.specs.WhatIf.{AreClosed, AreEnough, CanTakeAsked, IsExtraCost, IsExtraOf, IsLeastCost, IsOneOpen, IsSearched, has_extra, high_of, is_settled}
 use Rattle.what_if.specs.WhatIf.{low_of, takes_asked, with_pin, without_last}
 use Rattle.what_if.specs.Ends.{Tells}
+use Rattle.what_if.proofs.LeastCosts.{least-exists}
 
 never : (b : Bool) → b ≡ false → b ≡ true → ⊥
 never true e f = absurd (cc e)
@@ -76,7 +77,7 @@ extra-closed s rounds most_tours before after c extra one other closed is =
       is = is;
     }
 
--- a car has one extra cost
+-- a car has no two extra costs
 extra-same : (s : Snapshot) (c : ℕ) (one other : ℤ) → IsExtraCost s c one → IsExtraCost s c other → other ≡ one
 extra-same s c one other x y =
     let first = least-same (without_last s) x.before y.before x.least_before y.least_before in
@@ -84,6 +85,16 @@ extra-same s c one other x y =
     let e = x.is in
     let f = y.is in
     omega (arith, ints, first, second, e, f)
+
+-- and it has one, since some feasible plan of each of the two costs least
+extra-exists : (s : Snapshot) (rounds most_tours : ℕ) (before after : Searched) (c : ℕ) → IsSearched (without_last s) rounds most_tours before
+    → IsSearched (with_pin s c) rounds most_tours after → (extra : ℤ) × IsExtraCost s c extra
+extra-exists s rounds most_tours before after c one other =
+    let first = least-exists (without_last s) one.plan one.answer.proves.feasible in
+    let second = least-exists (with_pin s c) other.plan other.answer.proves.feasible in (
+      pos second.0 -ℤ pos first.0,
+      record { before = first.0; after = second.0; least_before = first.1; least_after = second.1; is = refl },
+    )
 
 extra-between : (s : Snapshot) (rounds most_tours : ℕ) (before after : Searched) (c : ℕ) (extra : ℤ) → IsSearched (without_last s) rounds most_tours before
     → IsSearched (with_pin s c) rounds most_tours after → IsExtraCost s c extra → ((pos after.bound -ℤ pos before.cost) ≤ℤ extra)
@@ -111,23 +122,27 @@ extra-told s rounds most_tours before after c NoExtra takes one other told = abs
 extra-told s rounds most_tours before after c (Exact extra) takes one other told =
     let exact = extra-closed s rounds most_tours before after c extra one other told.0 told.1 in
     (takes, record { after = after; searched = other; closed = told.0; is = told.1; extra_cost = exact; only = λ more is. extra-same s c extra more exact is })
-extra-told s rounds most_tours before after c (Between low high) takes one other told = (
-  takes,
-  record {
-    after = after;
-    searched = other;
-    one_open = told.one_open;
-    low_is = told.low_is;
-    high_is = told.high_is;
-    apart = (let room =
-        apart-if-open before after (bound-below (without_last s) rounds most_tours before one)
-        (bound-below (with_pin s c) rounds most_tours after other) told.one_open in let low = told.low_is in let high = told.high_is in
-        omega (arith, ints, room, low, high));
-    holds = λ extra is.
-        (let ends = extra-between s rounds most_tours before after c extra one other is in let from = ends.0 in let to = ends.1 in let low = told.low_is in
-        let high = told.high_is in (omega (arith, ints, from, low), omega (arith, ints, to, high)));
-  },
-)
+extra-told s rounds most_tours before after c (Between low high) takes one other told =
+    let exists = extra-exists s rounds most_tours before after c one other in (
+      takes,
+      record {
+        after = after;
+        searched = other;
+        one_open = told.one_open;
+        low_is = told.low_is;
+        high_is = told.high_is;
+        apart = (let room =
+            apart-if-open before after (bound-below (without_last s) rounds most_tours before one)
+            (bound-below (with_pin s c) rounds most_tours after other) told.one_open in let low = told.low_is in let high = told.high_is in
+            omega (arith, ints, room, low, high));
+        extra = exists.0;
+        extra_cost = exists.1;
+        only = λ more is. extra-same s c exists.0 more exists.1 is;
+        holds = λ more is.
+            (let ends = extra-between s rounds most_tours before after c more one other is in let from = ends.0 in let to = ends.1 in let low = told.low_is in
+            let high = told.high_is in (omega (arith, ints, from, low), omega (arith, ints, to, high)));
+      },
+    )
 
 -- each extra cost of a car lies between the ends of what is said of it
 pub extra-within : (s : Snapshot) (rounds most_tours : ℕ) (before : Searched) (c : ℕ) (x : Extra) (extra : ℤ) → takes_asked s c ≡ true

@@ -102,6 +102,7 @@ pub record IsExact (s : Snapshot) (rounds most_tours : ℕ) (before : Searched) 
   pub extra_cost : IsExtraCost s c extra
   pub only : (other : ℤ) → IsExtraCost s c other → other ≡ extra
 
+-- There is one extra cost, and it lies between these.
 pub record IsBetween (s : Snapshot) (rounds most_tours : ℕ) (before : Searched) (c : ℕ) (low high : ℤ) : Type 0 where
   pub after : Searched
   pub searched : IsSearched (with_pin s c) rounds most_tours after
@@ -109,7 +110,10 @@ pub record IsBetween (s : Snapshot) (rounds most_tours : ℕ) (before : Searched
   pub low_is : low ≡ pos after.bound -ℤ pos before.cost
   pub high_is : high ≡ pos after.cost -ℤ pos before.bound
   pub apart : low <ℤ high
-  pub holds : (extra : ℤ) → IsExtraCost s c extra → (low ≤ℤ extra) × (extra ≤ℤ high)
+  pub extra : ℤ
+  pub extra_cost : IsExtraCost s c extra
+  pub only : (other : ℤ) → IsExtraCost s c other → other ≡ extra
+  pub holds : (other : ℤ) → IsExtraCost s c other → (low ≤ℤ other) × (other ≤ℤ high)
 
 -- What is said of a car, after the search without the call.
 abbrev pub IsExtraOf : Snapshot → (rounds most_tours : ℕ) → (before : Searched) → ℕ → Extra → Type 0

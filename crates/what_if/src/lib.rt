@@ -10,7 +10,8 @@
 //!   take it; of equals, the first.
 //! - `what_if` says for each car that can take the call what it costs with that car (`AreExtras`): exactly
 //!   the difference of two least costs where both searches were solved, and else two ends between which it
-//!   lies, from the costs and bounds that the searches answered. Where the limits are enough it is exact.
+//!   lies, from the costs and bounds that the searches answered. There is exactly one such cost, since of the
+//!   feasible plans some one costs least (`proofs/LeastCosts.antt`). Where the limits are enough it is exact.
 //! - It says how much more the call costs with the nearest car than with the best one, exactly or by two ends
 //!   (`IsRegret`).
 //! - `extra_at` reads what is said of a car, and `are_settled` tells whether all of it is exact.
