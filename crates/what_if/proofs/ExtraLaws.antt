@@ -78,7 +78,7 @@ extra-closed s rounds most_tours before after c extra one other closed is =
     }
 
 -- a car has no two extra costs
-extra-same : (s : Snapshot) (c : ℕ) (one other : ℤ) → IsExtraCost s c one → IsExtraCost s c other → other ≡ one
+pub extra-same : (s : Snapshot) (c : ℕ) (one other : ℤ) → IsExtraCost s c one → IsExtraCost s c other → other ≡ one
 extra-same s c one other x y =
     let first = least-same (without_last s) x.before y.before x.least_before y.least_before in
     let second = least-same (with_pin s c) x.after y.after x.least_after y.least_after in
@@ -152,6 +152,13 @@ extra-within s rounds most_tours before c (Exact exact) extra takes of is =
     let same = of.1.only extra is in
     (omega (arith, ints, same), omega (arith, ints, same))
 extra-within s rounds most_tours before c (Between low high) extra takes of is = of.1.holds extra is
+
+-- a car that can take the call has an extra cost
+pub extra-at : (s : Snapshot) (rounds most_tours : ℕ) (before : Searched) (c : ℕ) (x : Extra) → takes_asked s c ≡ true
+    → IsExtraOf s rounds most_tours before c x → (extra : ℤ) × IsExtraCost s c extra
+extra-at s rounds most_tours before c NoExtra takes of = absurd (never (takes_asked s c) of takes)
+extra-at s rounds most_tours before c (Exact extra) takes of = (extra, of.1.extra_cost)
+extra-at s rounds most_tours before c (Between low high) takes of = (of.1.extra, of.1.extra_cost)
 
 -- a car of which something is said can take the call, and the other way round
 pub takes-has : (s : Snapshot) (rounds most_tours : ℕ) (before : Searched) (c : ℕ) (x : Extra) → IsExtraOf s rounds most_tours before c x

@@ -194,9 +194,12 @@ pub record HasEnds (extras : List Extra) (r : Regret) : Type 0 where
   pub settled : AreSettled extras → r.low ≡ r.high
   pub unsettled : (AreSettled extras → ⊥) → r.low ≡ pos 0
 
--- What is said of the nearest car.
+-- What is said of the nearest car: it has one regret, which lies between the ends.
 pub record IsRegret (s : Snapshot) (extras : List Extra) (r : Regret) : Type 0 where
   pub nearest : IsNearest s r.car
   pub ends : HasEnds extras r
-  pub holds : (regret : ℤ) → IsRegretOf s r.car regret → (r.low ≤ℤ regret) × (regret ≤ℤ r.high)
+  pub regret : ℤ
+  pub regret_of : IsRegretOf s r.car regret
+  pub only : (other : ℤ) → IsRegretOf s r.car other → other ≡ regret
+  pub holds : (other : ℤ) → IsRegretOf s r.car other → (r.low ≤ℤ other) × (other ≤ℤ r.high)
   pub exact : AreSettled extras → IsRegretOf s r.car r.low

@@ -13,7 +13,7 @@
 //!   lies, from the costs and bounds that the searches answered. There is exactly one such cost, since of the
 //!   feasible plans some one costs least (`proofs/LeastCosts.antt`). Where the limits are enough it is exact.
 //! - It says how much more the call costs with the nearest car than with the best one, exactly or by two ends
-//!   (`IsRegret`).
+//!   (`IsRegret`). This is one number, too.
 //! - `extra_at` reads what is said of a car, and `are_settled` tells whether all of it is exact.
 //!
 //! An extra cost is a number with a sign: no law says that a call makes no plan cheaper.
