@@ -10,15 +10,16 @@ use Rattle.day_state.specs.Openings.{IsOpeningSnapshot}
 use Rattle.day_simulator.specs.Planning.{PlannerLaw}
 use Rattle.day_laws.specs.Standing.{row_number}
 use Rattle.day_laws.proofs.NoneLost.{end-length}
+use Rattle.lift_text.specs.Page.{PageState, text_at}
 use Rattle.lift_text.specs.Reading.{TextState}
 use Rattle.day_text.specs.LogTexts.{end_text}
 use Rattle.day_laws.specs.RowLines.{rows_of}
-use Rattle.day_simulator.specs.RowRuns.{IsBegun, Right, AreRowsDone, Ran, ReadLines, Reads, Wrote}
-use Rattle.day_simulator.specs.DayRuns.{IsCutIn, EndedAs, RanDay, ReadsDay, WroteDay, first_line, rows_log}
+use Rattle.day_simulator.specs.RowRuns.{IsBegun, Right, AreRowsDone, HoldsAhead, Ran, ReadLines, Reads, Wrote}
+use Rattle.day_simulator.specs.DayRuns.{IsCutIn, EndedAs, HoldsDayAhead, RanDay, ReadsDay, WroteDay, first_line, rows_log}
 use Rattle.day_simulator.specs.declared.day_runs.Ended.{Ended}
 use Rattle.day_simulator.specs.declared.row_runs.RunFault.{RunFault}
 use Rattle.day_simulator.specs.declared.row_runs.RunFault.TheVariants.{TooLong, Read, Write, NoMemory}
-use Rattle.day_simulator.proofs.StepLemmas.{append_known-more, left_lines, nothing-read}
+use Rattle.day_simulator.proofs.StepLemmas.{append_known-more, left_lines, nothing-ahead, nothing-read}
 use Rattle.day_simulator.proofs.ServedRows.{served-none, served-rows}
 
 -- the log of the rows behind the first line
@@ -79,11 +80,12 @@ nothing-read-memory None left = tt
 nothing-read-memory (Some from) left = (nothing-read from, tt)
 
 -- the first line was not written
-pub day-unopened : (right : Right) (opening : Snapshot) (fault : RunFault) (before : Option TextState) (left sink sink' : Option (List ℕ)) → fault ≡ Write
+pub day-unopened : (right : Right) (opening : Snapshot) (fault : RunFault) (page : PageState) (left sink sink' : Option (List ℕ)) → fault ≡ Write
     → (count : ℕ) × (count ≤ length first_line) × (sink' ≡ append_known sink (take count first_line))
-    → RanDay right opening (Err fault) before left sink sink'
-day-unopened right opening fault before left sink sink' is wrote =
-    subst (λ (f : RunFault). RanDay right opening (Err f) before left sink sink') (sym is)
+    → RanDay right opening (Err fault) (text_at page left) page.unread left sink sink'
+day-unopened right opening fault page left sink sink' is wrote =
+    let before = text_at page left in
+    subst (λ (f : RunFault). RanDay right opening (Err f) before page.unread left sink sink') (sym is)
     (record {
       passed = [];
       behind = left_lines before;
@@ -94,15 +96,22 @@ day-unopened right opening fault before left sink sink' is wrote =
       once =
           served-none right opening;
       read = nothing-read-write before left;
+      read_ahead = nothing-ahead page left;
       wrote = first-begun (opening_day opening) wrote.0 sink sink' wrote.1 wrote.2;
       cut =
           inl wrote;
     })
 
+nothing-ahead-memory : (page : PageState) (left : Option (List ℕ))
+    → IfSome (text_at page left) (λ from. HoldsDayAhead (Err NoMemory) from [] (left_lines (text_at page left)) page.unread left)
+nothing-ahead-memory page None = tt
+nothing-ahead-memory page (Some later) = inl refl
+
 -- memory was wanting for the day
-pub day-unmade : (right : Right) (opening : Snapshot) (before : Option TextState) (left sink sink' : Option (List ℕ)) → sink' ≡ append_known sink first_line
-    → RanDay right opening (Err NoMemory) before left sink sink'
-day-unmade right opening before left sink sink' wrote =
+pub day-unmade : (right : Right) (opening : Snapshot) (page : PageState) (left sink sink' : Option (List ℕ)) → sink' ≡ append_known sink first_line
+    → RanDay right opening (Err NoMemory) (text_at page left) page.unread left sink sink'
+day-unmade right opening page left sink sink' wrote =
+    let before = text_at page left in
     record {
       passed = [];
       behind = left_lines before;
@@ -113,6 +122,7 @@ day-unmade right opening before left sink sink' wrote =
       once =
           served-none right opening;
       read = nothing-read-memory before left;
+      read_ahead = nothing-ahead-memory page left;
       wrote = wrote;
       cut = tt;
     }
@@ -133,6 +143,15 @@ reads-day Read (Some from) passed behind left read = (read.0, read.1)
 reads-day Write (Some from) passed behind left read = (read.0, tt)
 reads-day NoMemory (Some from) passed behind left read = (read.0, tt)
 
+ahead-day : (fault : RunFault) (before : Option TextState) (passed behind : List (List ℕ)) (ahead : List ℕ) (left : Option (List ℕ))
+    → IfSome before (λ from. HoldsAhead (Err fault) from passed behind ahead left)
+    → IfSome before (λ from. HoldsDayAhead (Err fault) from passed behind ahead left)
+ahead-day fault None passed behind ahead left holds = tt
+ahead-day TooLong (Some from) passed behind ahead left holds = tt
+ahead-day Read (Some from) passed behind ahead left holds = tt
+ahead-day Write (Some from) passed behind ahead left holds = holds
+ahead-day NoMemory (Some from) passed behind ahead left holds = inr holds
+
 wrote-day : (fault : RunFault) (text : List ℕ) (day : Day) (sink sink' sink'' : Option (List ℕ)) → sink' ≡ append_known sink first_line
     → Wrote (Err fault) text sink' sink'' → WroteDay (Err fault) text day sink sink''
 wrote-day TooLong text day sink sink' sink'' first wrote = rows-written sink sink' sink'' text first wrote
@@ -150,10 +169,10 @@ cut-rows NoMemory text before behind left sink sink' sink'' first wrote = tt
 
 -- a fault among the rows
 pub day-stopped : (right : Right) (law : PlannerLaw right) (opening : Snapshot) (start day : Day) (fault : RunFault) (before : Option TextState)
-    (left sink sink' sink'' : Option (List ℕ)) → IsAccepted opening → IsOpeningSnapshot opening → start ≡ opening_day opening
+    (ahead : List ℕ) (left sink sink' sink'' : Option (List ℕ)) → IsAccepted opening → IsOpeningSnapshot opening → start ≡ opening_day opening
     → sink' ≡ append_known sink first_line → IsTrue (loses_none day)
-    → Ran right start day (Err fault) before left sink' sink'' → RanDay right opening (Err fault) before left sink sink''
-day-stopped right law opening start day fault before left sink sink' sink'' a o is first none_lost ran = record {
+    → Ran right start day (Err fault) before ahead left sink' sink'' → RanDay right opening (Err fault) before ahead left sink sink''
+day-stopped right law opening start day fault before ahead left sink sink' sink'' a o is first none_lost ran = record {
   passed = ran.passed;
   behind = ran.behind;
   day = day;
@@ -162,6 +181,7 @@ day-stopped right law opening start day fault before left sink sink' sink'' a o 
   none_lost = none_lost;
   once = served-rows right law opening (rows_of ran.passed) day ran.text a o (from-opening right opening start day ran.passed ran.text is ran.done);
   read = reads-day fault before ran.passed ran.behind left ran.read;
+  read_ahead = ahead-day fault before ran.passed ran.behind ahead left ran.read_ahead;
   wrote = wrote-day fault ran.text day sink sink' sink'' first ran.wrote;
   cut = cut-rows fault ran.text before ran.behind left sink sink' sink'' first ran.wrote;
 }
@@ -178,6 +198,16 @@ read-whole (Err TooLong) unit day sink sink' (Some from) passed behind left end 
 read-whole (Err Read) unit day sink sink' (Some from) passed behind left end read = absurd end
 read-whole (Err Write) unit day sink sink' (Some from) passed behind left end read = (read.0, tt)
 read-whole (Err NoMemory) unit day sink sink' (Some from) passed behind left end read = (read.0, tt)
+
+ahead-whole : (result : Result Ended RunFault) (unit : Unit {0}) (before : Option TextState) (passed behind : List (List ℕ)) (ahead : List ℕ)
+    (left : Option (List ℕ)) → IfSome before (λ from. HoldsAhead (Ok unit) from passed behind ahead left)
+    → IfSome before (λ from. HoldsDayAhead result from passed behind ahead left)
+ahead-whole result unit None passed behind ahead left holds = tt
+ahead-whole (Ok ended) unit (Some from) passed behind ahead left holds = holds
+ahead-whole (Err TooLong) unit (Some from) passed behind ahead left holds = tt
+ahead-whole (Err Read) unit (Some from) passed behind ahead left holds = tt
+ahead-whole (Err Write) unit (Some from) passed behind ahead left holds = holds
+ahead-whole (Err NoMemory) unit (Some from) passed behind ahead left holds = inl holds
 
 wrote-end : (result : Result Ended RunFault) (text : List ℕ) (day : Day) (sink sink' sink'' : Option (List ℕ)) → sink' ≡ append_known sink (rows_log text)
     → EndedAs day result sink' sink'' → WroteDay result text day sink sink''
@@ -203,10 +233,11 @@ cut-end (Err Write) unit text before passed behind left sink sink' read = inr (a
 cut-end (Err NoMemory) unit text before passed behind left sink sink' read = tt
 
 pub day-ended : (right : Right) (law : PlannerLaw right) (opening : Snapshot) (start day : Day) (unit : Unit {0}) (result : Result Ended RunFault)
-    (before : Option TextState) (left sink sink' sink'' sink''' : Option (List ℕ)) → IsAccepted opening → IsOpeningSnapshot opening
+    (before : Option TextState) (ahead : List ℕ) (left sink sink' sink'' sink''' : Option (List ℕ)) → IsAccepted opening → IsOpeningSnapshot opening
     → start ≡ opening_day opening → sink' ≡ append_known sink first_line → IsTrue (loses_none day)
-    → Ran right start day (Ok unit) before left sink' sink'' → EndedAs day result sink'' sink''' → RanDay right opening result before left sink sink'''
-day-ended right law opening start day unit result before left sink sink' sink'' sink''' a o is first none_lost ran end = record {
+    → Ran right start day (Ok unit) before ahead left sink' sink'' → EndedAs day result sink'' sink'''
+    → RanDay right opening result before ahead left sink sink'''
+day-ended right law opening start day unit result before ahead left sink sink' sink'' sink''' a o is first none_lost ran end = record {
   passed = ran.passed;
   behind = ran.behind;
   day = day;
@@ -215,6 +246,7 @@ day-ended right law opening start day unit result before left sink sink' sink'' 
   none_lost = none_lost;
   once = served-rows right law opening (rows_of ran.passed) day ran.text a o (from-opening right opening start day ran.passed ran.text is ran.done);
   read = read-whole result unit day sink'' sink''' before ran.passed ran.behind left end ran.read;
+  read_ahead = ahead-whole result unit before ran.passed ran.behind ahead left ran.read_ahead;
   wrote = wrote-end result ran.text day sink sink'' sink''' (rows-written sink sink' sink'' ran.text first ran.wrote) end;
   cut = cut-end result unit ran.text before ran.passed ran.behind left sink sink''' ran.read;
 }

@@ -27,7 +27,7 @@ use Rattle.day_simulator.specs.declared.row_runs.RunFault.{RunFault}
 use Rattle.day_simulator.specs.declared.row_runs.NextRow.{NextRow}
 use Rattle.day_simulator.specs.declared.row_runs.RunFault.TheVariants.{TooLong, Read, NoMemory}
 use Rattle.day_simulator.specs.declared.row_runs.NextRow.TheVariants.{End as EndOfText}
-use Rattle.day_simulator.proofs.RowRunLemmas.{append-assoc, long-row-done, long-rows}
+use Rattle.day_simulator.proofs.RowRunLemmas.{append-assoc, append-nil, long-row-done, long-rows}
 
 -- ---- the lines of a text, joined
 
@@ -106,36 +106,52 @@ long-line-read right old new text (Some from) (Some to) raw next done =
 
 -- ---- where a run stops
 
-pub stops-end : (before after : Option TextState) (raw : List ℕ) (left : Option (List ℕ)) → NextRaw before (Ok End) raw after → IsAtEnd left
-    → StopsAt (Ok tt) before left
-stops-end None after raw left next end = tt
-stops-end (Some from) after raw left next end = (ap pieces_of next.0, end)
+-- the bytes of a text, where they are known
+abbrev bytes_at : Option TextState → List ℕ
+bytes_at None = []
+bytes_at (Some text) = text.bytes
+
+pub stops-end : (before : Option TextState) (page : PageState) (raw : List ℕ) (left : Option (List ℕ))
+    → NextRaw before (Ok End) raw (text_at page left) → IsAtEnd left → StopsAt (Ok tt) before page.unread left
+stops-end None page raw left next end = tt
+stops-end (Some from) page raw None next end = ((ap pieces_of next.0, end), tt)
+stops-end (Some from) page raw (Some later) next end = ((ap pieces_of next.0, end), sym (ap bytes_at next.1))
+
+-- behind the first line of a text these bytes were taken
+first-ahead : (bytes piece ahead later : List ℕ) → pieces_of bytes ≡ piece ∷ pieces_of (ahead ++ later)
+    → bytes ≡ concat (take 1 (pieces_of bytes)) ++ (ahead ++ later)
+first-ahead bytes piece ahead later is =
+    subst (λ (pieces : List (List ℕ)). bytes ≡ concat (take 1 pieces) ++ (ahead ++ later)) (sym is)
+    (first-piece bytes piece (ahead ++ later) is ∙ ap (λ (r : List ℕ). r ++ (ahead ++ later)) (sym (append-nil piece)))
 
 -- what is left of a text whose first line was read, but for the memory for its row
-pub stops-line : (before after : Option TextState) (raw : List ℕ) (left : Option (List ℕ)) → NextRaw before (Ok Line) raw after
-    → StopsAt (Err NoMemory) before left
-stops-line None after raw left next = tt
-stops-line (Some from) None raw left next = absurd next
-stops-line (Some from) (Some to) raw left next = record { piece = next.0; pieces = pieces_of to.bytes; next = next.1 }
+pub stops-line : (before : Option TextState) (page : PageState) (raw : List ℕ) (left : Option (List ℕ))
+    → NextRaw before (Ok Line) raw (text_at page left) → StopsAt (Err NoMemory) before page.unread left
+stops-line None page raw left next = tt
+stops-line (Some from) page raw None next = absurd next
+stops-line (Some from) page raw (Some later) next =
+    (record { piece = next.0; pieces = pieces_of (page.unread ++ later); next = next.1 }, first-ahead from.bytes next.0 page.unread later next.1)
 
-pub stops-long-line : (before after : Option TextState) (raw : List ℕ) (left : Option (List ℕ)) → NextRaw before (Ok Long) raw after
-    → StopsAt (Err NoMemory) before left
-stops-long-line None after raw left next = tt
-stops-long-line (Some from) None raw left next = absurd next
-stops-long-line (Some from) (Some to) raw left next = record { piece = next.0; pieces = pieces_of to.bytes; next = next.1 }
+pub stops-long-line : (before : Option TextState) (page : PageState) (raw : List ℕ) (left : Option (List ℕ))
+    → NextRaw before (Ok Long) raw (text_at page left) → StopsAt (Err NoMemory) before page.unread left
+stops-long-line None page raw left next = tt
+stops-long-line (Some from) page raw None next = absurd next
+stops-long-line (Some from) page raw (Some later) next =
+    (record { piece = next.0; pieces = pieces_of (page.unread ++ later); next = next.1 }, first-ahead from.bytes next.0 page.unread later next.1)
 
-pub stops-too-long : (before after : Option TextState) (raw : List ℕ) (left : Option (List ℕ)) → NextRaw before (Err TextTooLong) raw after
-    → StopsAt (Err TooLong) before left
-stops-too-long None after raw left next = tt
-stops-too-long (Some from) after raw left next = record { piece = next.0; pieces = next.1; next = next.2; long = omega (arith, next.3) }
+pub stops-too-long : (before after : Option TextState) (raw ahead : List ℕ) (left : Option (List ℕ)) → NextRaw before (Err TextTooLong) raw after
+    → StopsAt (Err TooLong) before ahead left
+stops-too-long None after raw ahead left next = tt
+stops-too-long (Some from) after raw ahead left next = (record { piece = next.0; pieces = next.1; next = next.2; long = omega (arith, next.3) }, tt)
 
 -- a read failed behind these bytes
-pub stops-cut : (page : PageState) (before left : Option (List ℕ)) (taken : List ℕ) → before ≡ prepend_known taken left
-    → (HasWholeLine (page.unread ++ taken) → ⊥) → StopsAt (Err Read) (text_at page before) left
-stops-cut page before None taken given none = subst (λ (known : Option (List ℕ)). StopsAt (Err Read) (text_at page known) None) (sym given) tt
-stops-cut page before (Some later) taken given none =
-    subst (λ (known : Option (List ℕ)). StopsAt (Err Read) (text_at page known) (Some later)) (sym given)
-    (record { taken = page.unread ++ taken; held = sym (append-assoc page.unread taken later); none = none; whole = All-nil HasWholeLine })
+pub stops-cut : (page : PageState) (before left : Option (List ℕ)) (taken ahead : List ℕ) → before ≡ prepend_known taken left
+    → (HasWholeLine (page.unread ++ taken) → ⊥) → StopsAt (Err Read) (text_at page before) ahead left
+stops-cut page before None taken ahead given none =
+    subst (λ (known : Option (List ℕ)). StopsAt (Err Read) (text_at page known) ahead None) (sym given) tt
+stops-cut page before (Some later) taken ahead given none =
+    subst (λ (known : Option (List ℕ)). StopsAt (Err Read) (text_at page known) ahead (Some later)) (sym given)
+    (record { taken = page.unread ++ taken; held = sym (append-assoc page.unread taken later); none = none; whole = All-nil HasWholeLine }, tt)
 
 -- ---- one line
 
@@ -147,68 +163,75 @@ long-line-done right old new text line (Ok unit) long day log =
     subst (λ r. AreRowsDone right old r new text) (sym (long-rows line long)) (long-row-done right old new text day log)
 long-line-done right old new text line (Err error) long day log = tt
 
-pub line-next : (right : Right) (old new : Day) (text : List ℕ) (before after : Option TextState) (line : List ℕ) (left : Option (List ℕ)) {E : Type 0}
-    (done : Result Unit E)
-    → NextRaw before (Ok Line) line after → OnOk done (AreRowsDone right old (rows_of_line line) new text) → OnErr done (new ≡ old)
-    → DidNext right old new (next_after done) text before after left
-line-next right old new text before after line left (Ok unit) next ok err = line-read right old new text before after line next ok
-line-next right old new text before after line left (Err error) next ok err = (err, stops-line before after line left next)
+pub line-next : (right : Right) (old new : Day) (text : List ℕ) (before : Option TextState) (page : PageState) (line : List ℕ) (left : Option (List ℕ))
+    {E : Type 0} (done : Result Unit E)
+    → NextRaw before (Ok Line) line (text_at page left) → OnOk done (AreRowsDone right old (rows_of_line line) new text) → OnErr done (new ≡ old)
+    → DidNext right old new (next_after done) text before (text_at page left) page.unread left
+line-next right old new text before page line left (Ok unit) next ok err = line-read right old new text before (text_at page left) line next ok
+line-next right old new text before page line left (Err error) next ok err = (err, stops-line before page line left next)
 
 -- the same of what a call answered
-pub line-answered : (right : Right) (old new : Day) (text : List ℕ) (before after : Option TextState) (line raw : List ℕ) (left : Option (List ℕ)) {E : Type 0}
-    (done : Result Unit E) (read : Result RawLine TextFault) (turn : Result NextRow RunFault)
-    → read ≡ Ok Line → line ≡ raw → turn ≡ next_after done → NextRaw before read raw after → OnOk done (AreRowsDone right old (rows_of_line line) new text)
-    → OnErr done (new ≡ old) → DidNext right old new turn text before after left
-line-answered right old new text before after line raw left done read turn is same turn_is next ok err =
-    subst (λ (t : Result NextRow RunFault). DidNext right old new t text before after left) (sym turn_is)
-    (line-next right old new text before after line left done
+pub line-answered : (right : Right) (old new : Day) (text : List ℕ) (before : Option TextState) (page : PageState) (line raw : List ℕ)
+    (left : Option (List ℕ)) {E : Type 0} (done : Result Unit E) (read : Result RawLine TextFault) (turn : Result NextRow RunFault)
+    → read ≡ Ok Line → line ≡ raw → turn ≡ next_after done → NextRaw before read raw (text_at page left)
+    → OnOk done (AreRowsDone right old (rows_of_line line) new text) → OnErr done (new ≡ old)
+    → DidNext right old new turn text before (text_at page left) page.unread left
+line-answered right old new text before page line raw left done read turn is same turn_is next ok err =
+    let after = text_at page left in
+    subst (λ (t : Result NextRow RunFault). DidNext right old new t text before after page.unread left) (sym turn_is)
+    (line-next right old new text before page line left done
     (subst (λ (l : List ℕ). NextRaw before (Ok Line) l after) (sym same) (subst (λ (r : Result RawLine TextFault). NextRaw before r raw after) is next)) ok
     err)
 
-pub long-line-next : (right : Right) (old new : Day) (text : List ℕ) (before after : Option TextState) (raw : List ℕ) (left : Option (List ℕ)) {E : Type 0}
-    (done : Result Unit E)
-    → NextRaw before (Ok Long) raw after → OnOk done (new ≡ day_after_refused old) → OnOk done (text ≡ refused_text (row_number old) NoRow)
-    → OnErr done (new ≡ old) → DidNext right old new (next_after done) text before after left
-long-line-next right old new text before after raw left (Ok unit) next day log err =
-    long-line-read right old new text before after raw next (long-row-done right old new text day log)
-long-line-next right old new text before after raw left (Err error) next day log err = (err, stops-long-line before after raw left next)
+pub long-line-next : (right : Right) (old new : Day) (text : List ℕ) (before : Option TextState) (page : PageState) (raw : List ℕ) (left : Option (List ℕ))
+    {E : Type 0} (done : Result Unit E)
+    → NextRaw before (Ok Long) raw (text_at page left) → OnOk done (new ≡ day_after_refused old)
+    → OnOk done (text ≡ refused_text (row_number old) NoRow) → OnErr done (new ≡ old)
+    → DidNext right old new (next_after done) text before (text_at page left) page.unread left
+long-line-next right old new text before page raw left (Ok unit) next day log err =
+    long-line-read right old new text before (text_at page left) raw next (long-row-done right old new text day log)
+long-line-next right old new text before page raw left (Err error) next day log err = (err, stops-long-line before page raw left next)
 
-pub long-line-answered : (right : Right) (old new : Day) (text : List ℕ) (before after : Option TextState) (raw : List ℕ) (left : Option (List ℕ)) {E : Type 0}
-    (done : Result Unit E) (read : Result RawLine TextFault) (turn : Result NextRow RunFault)
-    → read ≡ Ok Long → turn ≡ next_after done → NextRaw before read raw after → OnOk done (new ≡ day_after_refused old)
-    → OnOk done (text ≡ refused_text (row_number old) NoRow) → OnErr done (new ≡ old) → DidNext right old new turn text before after left
-long-line-answered right old new text before after raw left done read turn is turn_is next day log err =
-    subst (λ (t : Result NextRow RunFault). DidNext right old new t text before after left) (sym turn_is)
-    (long-line-next right old new text before after raw left done (subst (λ (r : Result RawLine TextFault). NextRaw before r raw after) is next) day log err)
+pub long-line-answered : (right : Right) (old new : Day) (text : List ℕ) (before : Option TextState) (page : PageState) (raw : List ℕ)
+    (left : Option (List ℕ)) {E : Type 0} (done : Result Unit E) (read : Result RawLine TextFault) (turn : Result NextRow RunFault)
+    → read ≡ Ok Long → turn ≡ next_after done → NextRaw before read raw (text_at page left) → OnOk done (new ≡ day_after_refused old)
+    → OnOk done (text ≡ refused_text (row_number old) NoRow) → OnErr done (new ≡ old)
+    → DidNext right old new turn text before (text_at page left) page.unread left
+long-line-answered right old new text before page raw left done read turn is turn_is next day log err =
+    let after = text_at page left in
+    subst (λ (t : Result NextRow RunFault). DidNext right old new t text before after page.unread left) (sym turn_is)
+    (long-line-next right old new text before page raw left done (subst (λ (r : Result RawLine TextFault). NextRaw before r raw after) is next) day log err)
 
-pub end-next : (right : Right) (day : Day) (text : List ℕ) (before after : Option TextState) (raw : List ℕ) (left : Option (List ℕ))
-    → NextRaw before (Ok End) raw after → IsAtEnd left → DidNext right day day (Ok EndOfText) text before after left
-end-next right day text before after raw left next end = (refl, stops-end before after raw left next end)
+pub end-next : (right : Right) (day : Day) (text : List ℕ) (before : Option TextState) (page : PageState) (raw : List ℕ) (left : Option (List ℕ))
+    → NextRaw before (Ok End) raw (text_at page left) → IsAtEnd left
+    → DidNext right day day (Ok EndOfText) text before (text_at page left) page.unread left
+end-next right day text before page raw left next end = (refl, stops-end before page raw left next end)
 
 -- A line could not be read: where the source tells what it has left, it is never one of the other two faults.
 pub fault-next : (right : Right) (day : Day) (text : List ℕ) (page : PageState) (old left : Option (List ℕ)) (after : Option TextState) (raw : List ℕ)
-    (fault : TextFault) (taken : List ℕ)
+    (fault : TextFault) (taken ahead : List ℕ)
     → NextRaw (text_at page old) (Err fault) raw after → old ≡ prepend_known taken left → (fault ≡ TextRead → HasWholeLine (page.unread ++ taken) → ⊥)
-    → DidNext right day day (Err (fault_of fault)) text (text_at page old) after left
-fault-next right day text page old left after raw TextTooLong taken next given none = (refl, stops-too-long (text_at page old) after raw left next)
-fault-next right day text page old left after raw TextRead taken next given none = (refl, stops-cut page old left taken given (none refl))
-fault-next right day text page old left after raw (Bad line code) taken next given none = (refl, stops-bad (text_at page old) next)
+    → DidNext right day day (Err (fault_of fault)) text (text_at page old) after ahead left
+fault-next right day text page old left after raw TextTooLong taken ahead next given none =
+    (refl, stops-too-long (text_at page old) after raw ahead left next)
+fault-next right day text page old left after raw TextRead taken ahead next given none = (refl, stops-cut page old left taken ahead given (none refl))
+fault-next right day text page old left after raw (Bad line code) taken ahead next given none = (refl, stops-bad (text_at page old) next)
   where
-    stops-bad : (before : Option TextState) → NextRaw before (Err (Bad line code)) raw after → StopsAt (Err NoMemory) before left
+    stops-bad : (before : Option TextState) → NextRaw before (Err (Bad line code)) raw after → StopsAt (Err NoMemory) before ahead left
     stops-bad None next = tt
     stops-bad (Some from) next = absurd next
-fault-next right day text page old left after raw TextNoMemory taken next given none = (refl, stops-none (text_at page old) next)
+fault-next right day text page old left after raw TextNoMemory taken ahead next given none = (refl, stops-none (text_at page old) next)
   where
-    stops-none : (before : Option TextState) → NextRaw before (Err TextNoMemory) raw after → StopsAt (Err NoMemory) before left
+    stops-none : (before : Option TextState) → NextRaw before (Err TextNoMemory) raw after → StopsAt (Err NoMemory) before ahead left
     stops-none None next = tt
     stops-none (Some from) next = absurd next
 
 pub fault-answered : (right : Right) (day : Day) (text : List ℕ) (page : PageState) (old left : Option (List ℕ)) (after : Option TextState) (raw : List ℕ)
-    (fault : TextFault) (taken : List ℕ) (read : Result RawLine TextFault) (answer : RunFault)
+    (fault : TextFault) (taken ahead : List ℕ) (read : Result RawLine TextFault) (answer : RunFault)
     → read ≡ Err fault → answer ≡ fault_of fault → NextRaw (text_at page old) read raw after → old ≡ prepend_known taken left
     → (IsErrOf read TextRead → HasWholeLine (page.unread ++ taken) → ⊥)
-    → DidNext right day day (Err answer) text (text_at page old) after left
-fault-answered right day text page old left after raw fault taken read answer is answer_is next given none =
-    subst (λ (f : RunFault). DidNext right day day (Err f) text (text_at page old) after left) (sym answer_is)
-    (fault-next right day text page old left after raw fault taken
+    → DidNext right day day (Err answer) text (text_at page old) after ahead left
+fault-answered right day text page old left after raw fault taken ahead read answer is answer_is next given none =
+    subst (λ (f : RunFault). DidNext right day day (Err f) text (text_at page old) after ahead left) (sym answer_is)
+    (fault-next right day text page old left after raw fault taken ahead
     (subst (λ (r : Result RawLine TextFault). NextRaw (text_at page old) r raw after) is next) given (λ e. none (is ∙ ap Err e)))

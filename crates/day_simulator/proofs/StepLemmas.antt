@@ -12,10 +12,11 @@ use Rattle.std.proofs.lemmas.List.Folds.{concat-append}
 use Rattle.byte_streams.specs.Streams.{Rose}
 use Rattle.search_model.specs.Days.{Day}
 use Rattle.lift_text.specs.Lines.{pieces_of, HasWholeLine}
+use Rattle.lift_text.specs.Page.{PageState, text_at}
 use Rattle.lift_text.specs.Reading.{TextState, HaveLineFeeds}
 use Rattle.day_laws.specs.RowLines.{rows_of}
-use Rattle.day_simulator.specs.RowRuns.{Right, AreRowsDone, DidNext, IsLineBetween, IsLineDone, IsStopped, Ran, ReadLines, Reads, StopsAt, Wrote, WroteNext}
-use Rattle.day_simulator.specs.RowRuns.{bytes_of, next_written}
+use Rattle.day_simulator.specs.RowRuns.{Right, AreAhead, AreRowsDone, DidNext, HoldsAhead, IsLineBetween, IsLineDone, IsStopped, Ran, ReadLines, Reads}
+use Rattle.day_simulator.specs.RowRuns.{StopsAt, Wrote, WroteNext, bytes_of, next_written}
 use Rattle.day_simulator.specs.declared.row_runs.RunFault.{RunFault}
 use Rattle.day_simulator.specs.declared.row_runs.RunFault.TheVariants.{TooLong, Read, Write, NoMemory}
 use Rattle.day_simulator.specs.declared.row_runs.NextRow.{NextRow}
@@ -25,27 +26,27 @@ use Rattle.day_simulator.proofs.ReadLemmas.{first-piece}
 
 -- ---- one line, written
 
-pub line-written : (right : Right) (old new : Day) (text : List ℕ) (before after : Option TextState) (left sink sink' : Option (List ℕ))
-    (written : Result Unit RunFault)
+pub line-written : (right : Right) (old new : Day) (text : List ℕ) (before after : Option TextState) (ahead : List ℕ)
+    (left sink sink' : Option (List ℕ)) (written : Result Unit RunFault)
     → IsLineDone right old new text before after → OnOk written (sink' ≡ append_known sink text) → (count : ℕ) × (count ≤ length text)
     × (sink' ≡ append_known sink (take count text)) → IfErr written (λ fault. fault ≡ Write)
-    → WroteNext right old new (next_written written) before after left sink sink'
-line-written right old new text before after left sink sink' (Ok unit) done ok front write = (text, done, ok)
-line-written right old new text before after left sink sink' (Err Write) done ok front write = (text, front.0, done, front.1, front.2)
-line-written right old new text before after left sink sink' (Err TooLong) done ok front write = absurd cc
-line-written right old new text before after left sink sink' (Err Read) done ok front write = absurd cc
-line-written right old new text before after left sink sink' (Err NoMemory) done ok front write = absurd cc
+    → WroteNext right old new (next_written written) before after ahead left sink sink'
+line-written right old new text before after ahead left sink sink' (Ok unit) done ok front write = (text, done, ok)
+line-written right old new text before after ahead left sink sink' (Err Write) done ok front write = (text, front.0, done, front.1, front.2)
+line-written right old new text before after ahead left sink sink' (Err TooLong) done ok front write = absurd cc
+line-written right old new text before after ahead left sink sink' (Err Read) done ok front write = absurd cc
+line-written right old new text before after ahead left sink sink' (Err NoMemory) done ok front write = absurd cc
 
-pub end-written : (right : Right) (old new : Day) (text : List ℕ) (before after : Option TextState) (left sink : Option (List ℕ))
-    → DidNext right old new (Ok End) text before after left → WroteNext right old new (Ok End) before after left sink sink
-end-written right old new text before after left sink did = record { day = did.0; stops = did.1; wrote = refl }
+pub end-written : (right : Right) (old new : Day) (text : List ℕ) (before after : Option TextState) (ahead : List ℕ) (left sink : Option (List ℕ))
+    → DidNext right old new (Ok End) text before after ahead left → WroteNext right old new (Ok End) before after ahead left sink sink
+end-written right old new text before after ahead left sink did = record { day = did.0; stops = did.1; wrote = refl }
 
-pub fault-written : (right : Right) (old new : Day) (text : List ℕ) (before after : Option TextState) (left sink : Option (List ℕ)) (fault : RunFault)
-    → DidNext right old new (Err fault) text before after left → WroteNext right old new (Err fault) before after left sink sink
-fault-written right old new text before after left sink TooLong did = record { day = did.0; stops = did.1; wrote = refl }
-fault-written right old new text before after left sink Read did = record { day = did.0; stops = did.1; wrote = refl }
-fault-written right old new text before after left sink Write did = absurd did
-fault-written right old new text before after left sink NoMemory did = record { day = did.0; stops = did.1; wrote = refl }
+pub fault-written : (right : Right) (old new : Day) (text : List ℕ) (before after : Option TextState) (ahead : List ℕ) (left sink : Option (List ℕ))
+    (fault : RunFault) → DidNext right old new (Err fault) text before after ahead left → WroteNext right old new (Err fault) before after ahead left sink sink
+fault-written right old new text before after ahead left sink TooLong did = record { day = did.0; stops = did.1; wrote = refl }
+fault-written right old new text before after ahead left sink Read did = record { day = did.0; stops = did.1; wrote = refl }
+fault-written right old new text before after ahead left sink Write did = absurd did
+fault-written right old new text before after ahead left sink NoMemory did = record { day = did.0; stops = did.1; wrote = refl }
 
 -- ---- the lines so far
 
@@ -175,33 +176,72 @@ lines-read from to passed is = record { pieces = is.pieces; short = (let limit =
 pub nothing-read : (from : TextState) → ReadLines from [] (pieces_of from.bytes)
 nothing-read from = (let nothing : bytes_of [] ≡ 0 = refl in record { pieces = refl; short = omega (arith, nothing) })
 
--- what was read where a run stops
-read-stopped : (result : Result Unit RunFault) (before at : Option TextState) (passed : List (List ℕ)) (left : Option (List ℕ))
-    → IfSome before (λ from. IsSomeAnd at (λ to. AreBetween from passed to))
-    → (result ≡ Err Read → IfSome before (λ _. All HasWholeLine passed)) → StopsAt result at left
-    → IfSome before (λ from. ReadLines from passed (left_lines at) × Reads result from passed (left_lines at) left)
-read-stopped result None at passed left so whole stops = tt
-read-stopped result (Some from) None passed left so whole stops = absurd so
-read-stopped result (Some from) (Some to) passed left so whole stops = (lines-read from to passed so, reads-behind result from to passed left so whole stops)
+-- what is held behind lines that were read, and behind those before them
+ahead-behind : (result : Result Unit RunFault) (from to : TextState) (passed : List (List ℕ)) (ahead : List ℕ) (left : Option (List ℕ))
+    → AreBetween from passed to → HoldsAhead result to [] (pieces_of to.bytes) ahead left → HoldsAhead result from passed (pieces_of to.bytes) ahead left
+ahead-behind (Ok unit) from to passed ahead None is holds = tt
+ahead-behind (Ok unit) from to passed ahead (Some later) is holds = is.bytes ∙ ap (λ (r : List ℕ). concat passed ++ r) holds
+ahead-behind (Err TooLong) from to passed ahead left is holds = tt
+ahead-behind (Err Read) from to passed ahead left is holds = tt
+ahead-behind (Err Write) from to passed ahead None is holds = tt
+ahead-behind (Err Write) from to passed ahead (Some later) is holds = is.bytes ∙ ap (λ (r : List ℕ). concat passed ++ r) holds
+ahead-behind (Err NoMemory) from to passed ahead None is holds = tt
+ahead-behind (Err NoMemory) from to passed ahead (Some later) is holds =
+    let next = take 1 (pieces_of to.bytes) in
+    is.bytes ∙ ap (λ (r : List ℕ). concat passed ++ r) holds ∙ sym (append-assoc (concat passed) (concat next) (ahead ++ later))
+    ∙ ap (λ (r : List ℕ). r ++ (ahead ++ later)) (sym (concat-append passed next))
 
-ran-stopped : (right : Right) (a b c : Day) (result : Result Unit RunFault) (before at : Option TextState) (ended : Bool)
-    (left sink sink' sink'' : Option (List ℕ)) (so : SoFar right a b before at ended sink sink') → IsStopped b c result at left sink' sink''
+-- the same where a run stops
+ahead-stopped : (result : Result Unit RunFault) (before at : Option TextState) (passed : List (List ℕ)) (ahead : List ℕ) (left : Option (List ℕ))
+    → IfSome before (λ from. IsSomeAnd at (λ to. AreBetween from passed to)) → StopsAt result at ahead left
+    → IfSome before (λ from. HoldsAhead result from passed (left_lines at) ahead left)
+ahead-stopped result None at passed ahead left so stops = tt
+ahead-stopped result (Some from) None passed ahead left so stops = absurd so
+ahead-stopped result (Some from) (Some to) passed ahead left so stops = ahead-behind result from to passed ahead left so stops.1
+
+-- behind lines that were read just what their reader holds was taken
+ahead-held : (before : Option TextState) (page : PageState) (passed : List (List ℕ)) (left : Option (List ℕ))
+    → IfSome before (λ from. IsSomeAnd (text_at page left) (λ to. AreBetween from passed to))
+    → IfSome before (λ from. AreAhead from passed page.unread left)
+ahead-held None page passed left so = tt
+ahead-held (Some from) page passed None so = absurd so
+ahead-held (Some from) page passed (Some later) so = so.bytes
+
+-- and in front of the first line
+pub nothing-ahead : (page : PageState) (left : Option (List ℕ)) → IfSome (text_at page left) (λ from. AreAhead from [] page.unread left)
+nothing-ahead page None = tt
+nothing-ahead page (Some later) = refl
+
+-- what was read where a run stops
+read-stopped : (result : Result Unit RunFault) (before at : Option TextState) (passed : List (List ℕ)) (ahead : List ℕ) (left : Option (List ℕ))
+    → IfSome before (λ from. IsSomeAnd at (λ to. AreBetween from passed to))
+    → (result ≡ Err Read → IfSome before (λ _. All HasWholeLine passed)) → StopsAt result at ahead left
+    → IfSome before (λ from. ReadLines from passed (left_lines at) × Reads result from passed (left_lines at) left)
+read-stopped result None at passed ahead left so whole stops = tt
+read-stopped result (Some from) None passed ahead left so whole stops = absurd so
+read-stopped result (Some from) (Some to) passed ahead left so whole stops =
+    (lines-read from to passed so, reads-behind result from to passed left so whole stops.0)
+
+ran-stopped : (right : Right) (a b c : Day) (result : Result Unit RunFault) (before at : Option TextState) (ended : Bool) (ahead : List ℕ)
+    (left sink sink' sink'' : Option (List ℕ)) (so : SoFar right a b before at ended sink sink') → IsStopped b c result at ahead left sink' sink''
     → (result ≡ Err Read → IfSome before (λ _. All HasWholeLine so.passed)) → (sink'' ≡ append_known sink so.text → Wrote result so.text sink sink'')
-    → Ran right a c result before left sink sink''
-ran-stopped right a b c result before at ended left sink sink' sink'' so stopped whole wrote = record {
+    → Ran right a c result before ahead left sink sink''
+ran-stopped right a b c result before at ended ahead left sink sink' sink'' so stopped whole wrote = record {
   passed = so.passed;
   behind = left_lines at;
   text = so.text;
   done = subst (λ (d : Day). AreRowsDone right a (rows_of so.passed) d so.text) (sym stopped.day) so.done;
-  read = read-stopped result before at so.passed left so.read whole stopped.stops;
+  read = read-stopped result before at so.passed ahead left so.read whole stopped.stops;
+  read_ahead = ahead-stopped result before at so.passed ahead left so.read stopped.stops;
   wrote = wrote (stopped.wrote ∙ so.wrote);
 }
 
 -- the text ends
-pub ran-end : (right : Right) (a b c : Day) (before at after : Option TextState) (ended : Bool) (left sink sink' sink'' : Option (List ℕ))
-    → SoFar right a b before at ended sink sink' → WroteNext right b c (Ok End) at after left sink' sink'' → Ran right a c (Ok tt) before left sink sink''
-ran-end right a b c before at after ended left sink sink' sink'' so stopped =
-    ran-stopped right a b c (Ok tt) before at ended left sink sink' sink'' so stopped (λ is. absurd cc) (λ w. w)
+pub ran-end : (right : Right) (a b c : Day) (before at after : Option TextState) (ended : Bool) (ahead : List ℕ) (left sink sink' sink'' : Option (List ℕ))
+    → SoFar right a b before at ended sink sink' → WroteNext right b c (Ok End) at after ahead left sink' sink''
+    → Ran right a c (Ok tt) before ahead left sink sink''
+ran-end right a b c before at after ended ahead left sink sink' sink'' so stopped =
+    ran-stopped right a b c (Ok tt) before at ended ahead left sink sink' sink'' so stopped (λ is. absurd cc) (λ w. w)
 
 -- what was read where a line was not written
 read-unwritten : (before at : Option TextState) (passed : List (List ℕ)) (left : Option (List ℕ))
@@ -211,17 +251,21 @@ read-unwritten None at passed left so = tt
 read-unwritten (Some from) None passed left so = absurd so
 read-unwritten (Some from) (Some to) passed left so = (lines-read from to passed so, tt)
 
-ran-unwritten : (right : Right) (a b c : Day) (text : List ℕ) (count : ℕ) (before at after : Option TextState) (ended : Bool)
-    (left sink sink' sink'' : Option (List ℕ)) → SoFar right a b before at ended sink sink' → IsLineDone right b c text at after → count ≤ length text
-    → sink'' ≡ append_known sink' (take count text) → Ran right a c (Err Write) before left sink sink''
-ran-unwritten right a b c text count before at after ended left sink sink' sink'' so done few wrote =
+ran-unwritten : (right : Right) (a b c : Day) (text : List ℕ) (count : ℕ) (before at : Option TextState) (page : PageState) (ended : Bool)
+    (left sink sink' sink'' : Option (List ℕ)) → SoFar right a b before at ended sink sink' → IsLineDone right b c text at (text_at page left)
+    → count ≤ length text → sink'' ≡ append_known sink' (take count text) → Ran right a c (Err Write) before page.unread left sink sink''
+ran-unwritten right a b c text count before at page ended left sink sink' sink'' so done few wrote =
+    let after = text_at page left in
+    let passed = so.passed ++ done.piece ∷ [] in
+    let read = read-more before at after so.passed done.piece so.read done.next in
     let size = length-append so.text text in
     record {
-      passed = so.passed ++ done.piece ∷ [];
+      passed = passed;
       behind = left_lines after;
       text = so.text ++ text;
       done = line-more right a b c so.passed done.piece so.text text so.done done.done;
-      read = read-unwritten before after (so.passed ++ done.piece ∷ []) left (read-more before at after so.passed done.piece so.read done.next);
+      read = read-unwritten before after passed left read;
+      read_ahead = ahead-held before page passed left read;
       wrote = (
         length so.text + count,
         omega (arith, size, few),
@@ -237,19 +281,19 @@ still-whole before passed ended ended' stays not (inl whole) = whole
 still-whole before passed ended ended' stays not (inr end) = absurd (false≢true (sym not ∙ stays end))
 
 -- a fault
-pub ran-fault : (right : Right) (a b c : Day) (fault : RunFault) (before at after : Option TextState) (ended ended' : Bool)
+pub ran-fault : (right : Right) (a b c : Day) (fault : RunFault) (before at : Option TextState) (page : PageState) (ended ended' : Bool)
     (left sink sink' sink'' : Option (List ℕ)) → SoFar right a b before at ended sink sink' → (ended ≡ true → ended' ≡ true)
-    → (IsErrOf {T = NextRow} (Err fault) Read → ended' ≡ false) → WroteNext right b c (Err fault) at after left sink' sink''
-    → Ran right a c (Err fault) before left sink sink''
-ran-fault right a b c TooLong before at after ended ended' left sink sink' sink'' so stays not stopped =
-    ran-stopped right a b c (Err TooLong) before at ended left sink sink' sink'' so stopped (λ is. absurd cc) (λ w. w)
-ran-fault right a b c Read before at after ended ended' left sink sink' sink'' so stays not stopped =
-    ran-stopped right a b c (Err Read) before at ended left sink sink' sink'' so stopped
+    → (IsErrOf {T = NextRow} (Err fault) Read → ended' ≡ false)
+    → WroteNext right b c (Err fault) at (text_at page left) page.unread left sink' sink'' → Ran right a c (Err fault) before page.unread left sink sink''
+ran-fault right a b c TooLong before at page ended ended' left sink sink' sink'' so stays not stopped =
+    ran-stopped right a b c (Err TooLong) before at ended page.unread left sink sink' sink'' so stopped (λ is. absurd cc) (λ w. w)
+ran-fault right a b c Read before at page ended ended' left sink sink' sink'' so stays not stopped =
+    ran-stopped right a b c (Err Read) before at ended page.unread left sink sink' sink'' so stopped
     (λ _. still-whole before so.passed ended ended' stays (not refl) so.whole) (λ w. w)
-ran-fault right a b c Write before at after ended ended' left sink sink' sink'' so stays not next =
-    ran-unwritten right a b c next.0 next.1 before at after ended left sink sink' sink'' so next.2 next.3 next.4
-ran-fault right a b c NoMemory before at after ended ended' left sink sink' sink'' so stays not stopped =
-    ran-stopped right a b c (Err NoMemory) before at ended left sink sink' sink'' so stopped (λ is. absurd cc) (λ w. w)
+ran-fault right a b c Write before at page ended ended' left sink sink' sink'' so stays not next =
+    ran-unwritten right a b c next.0 next.1 before at page ended left sink sink' sink'' so next.2 next.3 next.4
+ran-fault right a b c NoMemory before at page ended ended' left sink sink' sink'' so stays not stopped =
+    ran-stopped right a b c (Err NoMemory) before at ended page.unread left sink sink' sink'' so stopped (λ is. absurd cc) (λ w. w)
 
 -- ---- counts of faults
 

@@ -58,22 +58,22 @@ no-long-line rows passed behind short read long =
     let next = length-append long.piece (concat long.pieces) in
     absurd (omega (arith, all, next, short, long.long))
 
-short-rows : (right : Right) (opening : Snapshot) (mid : Option TextState) (rows : TextState) (left sink sink' : Option (List ℕ)) → mid ≡ Some rows
-    → bytes_of (pieces_of rows.bytes) ≤ rows.limit → RanDay right opening (Err TooLong) mid left sink sink' → ⊥
-short-rows right opening mid rows left sink sink' is short ran =
+short-rows : (right : Right) (opening : Snapshot) (mid : Option TextState) (rows : TextState) (ahead : List ℕ) (left sink sink' : Option (List ℕ))
+    → mid ≡ Some rows → bytes_of (pieces_of rows.bytes) ≤ rows.limit → RanDay right opening (Err TooLong) mid ahead left sink sink' → ⊥
+short-rows right opening mid rows ahead left sink sink' is short ran =
     let read = subst (λ (m : Option TextState).
     IfSome m (λ from. ReadLines from ran.passed ran.behind × ReadsDay (Err TooLong) from ran.passed ran.behind left)) is ran.read in
     no-long-line rows ran.passed ran.behind short read.0 read.1
 
-pub rows-end : (right : Right) (opening : Snapshot) (fault : RunFault) (before mid : Option TextState) (left sink sink' : Option (List ℕ))
-    → TakesDayOpenings before (Ok opening) mid → RanDay right opening (Err fault) mid left sink sink' → IsSomeAnd before IsDayText
+pub rows-end : (right : Right) (opening : Snapshot) (fault : RunFault) (before mid : Option TextState) (ahead : List ℕ) (left sink sink' : Option (List ℕ))
+    → TakesDayOpenings before (Ok opening) mid → RanDay right opening (Err fault) mid ahead left sink sink' → IsSomeAnd before IsDayText
     → EndsUnlessFailed (Err (Rows fault))
-rows-end right opening fault None mid left sink sink' takes ran text = absurd text
-rows-end right opening TooLong (Some before) mid left sink sink' takes ran text =
-    short-rows right opening mid text.rows left sink sink' (takes text.opening text.rows text.begins).1 text.short ran
-rows-end right opening Read (Some before) mid left sink sink' takes ran text = tt
-rows-end right opening Write (Some before) mid left sink sink' takes ran text = tt
-rows-end right opening NoMemory (Some before) mid left sink sink' takes ran text = tt
+rows-end right opening fault None mid ahead left sink sink' takes ran text = absurd text
+rows-end right opening TooLong (Some before) mid ahead left sink sink' takes ran text =
+    short-rows right opening mid text.rows ahead left sink sink' (takes text.opening text.rows text.begins).1 text.short ran
+rows-end right opening Read (Some before) mid ahead left sink sink' takes ran text = tt
+rows-end right opening Write (Some before) mid ahead left sink sink' takes ran text = tt
+rows-end right opening NoMemory (Some before) mid ahead left sink sink' takes ran text = tt
 
 pub opening-taken : (fault : TextFault) (before mid : Option TextState) → TakesDayOpenings before (Err fault) mid → IsSomeAnd before IsDayText
     → EndsUnlessFailed (Err (Opening fault))

@@ -1,12 +1,12 @@
 -- The log of a whole day.
-use Rattle.std.specs.Prelude.{◌≡◌, ℕ, List, [], ◌++◌, length, codes, IsTrue, Option, IfSome, Result, Ok, Err, ◌⊎◌}
+use Rattle.std.specs.Prelude.{◌≡◌, ℕ, List, [], ◌++◌, length, take, codes, IsTrue, Option, IfSome, Result, Ok, Err, ◌⊎◌}
 use Rattle.std.specs.Io.KnownBytes.{append_known, IsAtEnd}
 use Rattle.elevator_model.specs.Snapshot.{Snapshot}
 use Rattle.search_model.specs.Days.{Day, opening_day, served_of, delivered_count, loses_none}
 use Rattle.lift_text.specs.Reading.{TextState}
 use Rattle.day_text.specs.LogTexts.{end_text}
 use Rattle.day_laws.specs.RowLines.{rows_of}
-use Rattle.day_simulator.specs.RowRuns.{Right, AreRowsDone, ReadLines, IsTooLong, IsCutOff, IsBegun}
+use Rattle.day_simulator.specs.RowRuns.{Right, AreAhead, AreRowsDone, ReadLines, IsTooLong, IsCutOff, IsBegun}
 use Rattle.day_simulator.specs.Served.{AreServedOnce}
 use Rattle.day_simulator.specs.declared.day_runs.Ended.{Ended}
 use Rattle.day_simulator.specs.declared.row_runs.RunFault.{RunFault}
@@ -31,6 +31,16 @@ ReadsDay (Err Read) before passed behind left = IsCutOff before passed left
 ReadsDay (Err Write) before passed behind left = Unit {0}
 ReadsDay (Err NoMemory) before passed behind left = Unit {0}
 
+-- How far the source was read, where `ahead` is what its reader holds unread: no line more than those that were done, or where
+-- memory was wanting for a line, than that one. So it is at every write, since a sink may fail at any of them.
+abbrev pub HoldsDayAhead : Result Ended RunFault → TextState → (passed behind : List (List ℕ)) → (ahead : List ℕ) → (left : Option (List ℕ)) → Type 0
+HoldsDayAhead (Ok ended) before passed behind ahead left = AreAhead before passed ahead left
+HoldsDayAhead (Err TooLong) before passed behind ahead left = Unit {0}
+HoldsDayAhead (Err Read) before passed behind ahead left = Unit {0}
+HoldsDayAhead (Err Write) before passed behind ahead left = AreAhead before passed ahead left
+HoldsDayAhead (Err NoMemory) before passed behind ahead left =
+    AreAhead before passed ahead left ⊎ AreAhead before (passed ++ take 1 behind) ahead left
+
 -- The whole log was written, and this is told at its end; or after a fault its lines up to the last row. Where a write
 -- failed, a beginning of the log was.
 abbrev pub WroteDay : Result Ended RunFault → (text : List ℕ) → Day → (old new : Option (List ℕ)) → Type 0
@@ -53,7 +63,7 @@ IsCutIn (Err Write) text before behind left old new = IsBegun (rows_log text) ol
 
 -- A day went over the rows of lines in front. None of its accepted calls was lost, by the end of the last plan each boards
 -- once and is delivered once, in time, and its log was written.
-pub record RanDay (right : Right) (opening : Snapshot) (result : Result Ended RunFault) (before : Option TextState)
+pub record RanDay (right : Right) (opening : Snapshot) (result : Result Ended RunFault) (before : Option TextState) (ahead : List ℕ)
     (left sink sink' : Option (List ℕ)) : Type 0 where
   pub passed : List (List ℕ)
   pub behind : List (List ℕ)
@@ -63,6 +73,7 @@ pub record RanDay (right : Right) (opening : Snapshot) (result : Result Ended Ru
   pub none_lost : IsTrue (loses_none day)
   pub once : AreServedOnce right (opening_day opening) (rows_of passed) day text done
   pub read : IfSome before (λ from. ReadLines from passed behind × ReadsDay result from passed behind left)
+  pub read_ahead : IfSome before (λ from. HoldsDayAhead result from passed behind ahead left)
   pub wrote : WroteDay result text day sink sink'
   pub cut : IsCutIn result text before behind left sink sink'
 

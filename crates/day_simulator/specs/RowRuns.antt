@@ -86,6 +86,21 @@ Reads (Err Read) before passed behind left = IsCutOff before passed left
 Reads (Err Write) before passed behind left = Unit {0}
 Reads (Err NoMemory) before passed behind left = IsNextLeft behind
 
+-- Behind these lines just these bytes were taken from the source.
+abbrev pub AreAhead : TextState → (passed : List (List ℕ)) → (ahead : List ℕ) → (left : Option (List ℕ)) → Type 0
+AreAhead before passed ahead left = IfSome left (λ later. before.bytes ≡ concat passed ++ (ahead ++ later))
+
+-- How far the source was read, where `ahead` is what its reader holds unread: no line more was read than those that were done,
+-- the one whose write failed with them, or than the one for which memory was wanting. A sink may fail at any write, and nothing
+-- tells before. So whenever rows are written the reader stands right behind their line, and it asks the source for more only
+-- where it holds no whole line.
+abbrev pub HoldsAhead : Result Unit RunFault → TextState → (passed behind : List (List ℕ)) → (ahead : List ℕ) → (left : Option (List ℕ)) → Type 0
+HoldsAhead (Ok done) before passed behind ahead left = AreAhead before passed ahead left
+HoldsAhead (Err TooLong) before passed behind ahead left = Unit {0}
+HoldsAhead (Err Read) before passed behind ahead left = Unit {0}
+HoldsAhead (Err Write) before passed behind ahead left = AreAhead before passed ahead left
+HoldsAhead (Err NoMemory) before passed behind ahead left = AreAhead before (passed ++ take 1 behind) ahead left
+
 -- a beginning of this text was written
 abbrev pub IsBegun : (text : List ℕ) → (old new : Option (List ℕ)) → Type 0
 IsBegun text old new = (count : ℕ) × (count ≤ length text) × (new ≡ append_known old (take count text))
@@ -99,12 +114,14 @@ Wrote (Err NoMemory) text old new = new ≡ append_known old text
 Wrote (Err Write) text old new = IsBegun text old new
 
 -- The rows of lines in front were done, and their lines of the log written.
-pub record Ran (right : Right) (old new : Day) (result : Result Unit RunFault) (before : Option TextState) (left sink sink' : Option (List ℕ)) : Type 0 where
+pub record Ran (right : Right) (old new : Day) (result : Result Unit RunFault) (before : Option TextState) (ahead : List ℕ)
+    (left sink sink' : Option (List ℕ)) : Type 0 where
   pub passed : List (List ℕ)
   pub behind : List (List ℕ)
   pub text : List ℕ
   pub done : AreRowsDone right old (rows_of passed) new text
   pub read : IfSome before (λ from. ReadLines from passed behind × Reads result from passed behind left)
+  pub read_ahead : IfSome before (λ from. HoldsAhead result from passed behind ahead left)
   pub wrote : Wrote result text sink sink'
 
 -- ---- how a line ends
@@ -127,31 +144,35 @@ fault_of (Bad line code) = NoMemory
 fault_of TextNoMemory = NoMemory
 
 -- The run stops in front of the next line, with this outcome.
-abbrev pub StopsAt : Result Unit RunFault → (before : Option TextState) → (left : Option (List ℕ)) → Type 0
-StopsAt result before left = IfSome before (λ from. Reads result from [] (pieces_of from.bytes) left)
+abbrev pub StopsAt : Result Unit RunFault → (before : Option TextState) → (ahead : List ℕ) → (left : Option (List ℕ)) → Type 0
+StopsAt result before ahead left =
+    IfSome before (λ from. Reads result from [] (pieces_of from.bytes) left × HoldsAhead result from [] (pieces_of from.bytes) ahead left)
 
 -- A line was done, or the run stops in front of it.
-abbrev pub DidNext : Right → (old new : Day) → Result NextRow RunFault → (text : List ℕ) → (before after : Option TextState) → (left : Option (List ℕ)) → Type 0
-DidNext right old new (Ok More) text before after left = IsLineDone right old new text before after
-DidNext right old new (Ok End) text before after left = (new ≡ old) × StopsAt (Ok tt) before left
-DidNext right old new (Err TooLong) text before after left = (new ≡ old) × StopsAt (Err TooLong) before left
-DidNext right old new (Err Read) text before after left = (new ≡ old) × StopsAt (Err Read) before left
-DidNext right old new (Err Write) text before after left = ⊥
-DidNext right old new (Err NoMemory) text before after left = (new ≡ old) × StopsAt (Err NoMemory) before left
+abbrev pub DidNext : Right → (old new : Day) → Result NextRow RunFault → (text : List ℕ) → (before after : Option TextState) → (ahead : List ℕ)
+    → (left : Option (List ℕ)) → Type 0
+DidNext right old new (Ok More) text before after ahead left = IsLineDone right old new text before after
+DidNext right old new (Ok End) text before after ahead left = (new ≡ old) × StopsAt (Ok tt) before ahead left
+DidNext right old new (Err TooLong) text before after ahead left = (new ≡ old) × StopsAt (Err TooLong) before ahead left
+DidNext right old new (Err Read) text before after ahead left = (new ≡ old) × StopsAt (Err Read) before ahead left
+DidNext right old new (Err Write) text before after ahead left = ⊥
+DidNext right old new (Err NoMemory) text before after ahead left = (new ≡ old) × StopsAt (Err NoMemory) before ahead left
 
 -- The run stopped in front of a line, and nothing was done or written for it.
-pub record IsStopped (old new : Day) (result : Result Unit RunFault) (before : Option TextState) (left sink sink' : Option (List ℕ)) : Type 0 where
+pub record IsStopped (old new : Day) (result : Result Unit RunFault) (before : Option TextState) (ahead : List ℕ)
+    (left sink sink' : Option (List ℕ)) : Type 0 where
   pub day : new ≡ old
-  pub stops : StopsAt result before left
+  pub stops : StopsAt result before ahead left
   pub wrote : sink' ≡ sink
 
 -- A line was done, and written, or where the write failed a beginning of it; or the run stops in front of it.
-abbrev pub WroteNext : Right → (old new : Day) → Result NextRow RunFault → (before after : Option TextState) → (left sink sink' : Option (List ℕ)) → Type 0
-WroteNext right old new (Ok More) before after left sink sink' =
+abbrev pub WroteNext : Right → (old new : Day) → Result NextRow RunFault → (before after : Option TextState) → (ahead : List ℕ)
+    → (left sink sink' : Option (List ℕ)) → Type 0
+WroteNext right old new (Ok More) before after ahead left sink sink' =
     (text : List ℕ) × IsLineDone right old new text before after × (sink' ≡ append_known sink text)
-WroteNext right old new (Ok End) before after left sink sink' = IsStopped old new (Ok tt) before left sink sink'
-WroteNext right old new (Err TooLong) before after left sink sink' = IsStopped old new (Err TooLong) before left sink sink'
-WroteNext right old new (Err Read) before after left sink sink' = IsStopped old new (Err Read) before left sink sink'
-WroteNext right old new (Err Write) before after left sink sink' =
+WroteNext right old new (Ok End) before after ahead left sink sink' = IsStopped old new (Ok tt) before ahead left sink sink'
+WroteNext right old new (Err TooLong) before after ahead left sink sink' = IsStopped old new (Err TooLong) before ahead left sink sink'
+WroteNext right old new (Err Read) before after ahead left sink sink' = IsStopped old new (Err Read) before ahead left sink sink'
+WroteNext right old new (Err Write) before after ahead left sink sink' =
     (text : List ℕ) × (count : ℕ) × IsLineDone right old new text before after × (count ≤ length text) × (sink' ≡ append_known sink (take count text))
-WroteNext right old new (Err NoMemory) before after left sink sink' = IsStopped old new (Err NoMemory) before left sink sink'
+WroteNext right old new (Err NoMemory) before after ahead left sink sink' = IsStopped old new (Err NoMemory) before ahead left sink sink'

@@ -17,19 +17,21 @@ use Rattle.day_simulator.specs.declared.text_runs.DayFault.{DayFault}
 use Rattle.day_simulator.specs.declared.text_runs.DayFault.TheVariants.{Opening, Rows}
 
 -- The text begins with an opening, and its day was run over the rows behind the header, with a plan that is right at each
--- row that was accepted; `left` is what the source has left then, and the sink had taken `taken` and has taken `taken'`.
-pub record DayRan (right : Right) (before : Option TextState) (left taken taken' : Option (List ℕ)) (result : Result Ended RunFault) : Type 0 where
+-- row that was accepted; `left` is what the source has left then, `ahead` what its reader holds unread, and the sink had taken
+-- `taken` and has taken `taken'`.
+pub record DayRan (right : Right) (before : Option TextState) (ahead : List ℕ) (left taken taken' : Option (List ℕ))
+    (result : Result Ended RunFault) : Type 0 where
   pub opening : Snapshot
   pub rows : Option TextState
   pub read : IsDayOpeningRead before opening rows
-  pub ran : RanDay right opening result rows left taken taken'
+  pub ran : RanDay right opening result rows ahead left taken taken'
 
 -- What became of the text; where it begins with no opening, nothing was written, and the end of the line that is said to be
 -- bad shows in the bytes that were taken. Where a read failed so far, no opening is whole among them.
-abbrev pub DayAnswered : Right → (before : Option TextState) → (left taken taken' : Option (List ℕ)) → Result Ended DayFault → Type 0
-DayAnswered right before left taken taken' (Ok ended) = DayRan right before left taken taken' (Ok ended)
-DayAnswered right before left taken taken' (Err (Rows fault)) = DayRan right before left taken taken' (Err fault)
-DayAnswered right before left taken taken' (Err (Opening fault)) =
+abbrev pub DayAnswered : Right → (before : Option TextState) → (ahead : List ℕ) → (left taken taken' : Option (List ℕ)) → Result Ended DayFault → Type 0
+DayAnswered right before ahead left taken taken' (Ok ended) = DayRan right before ahead left taken taken' (Ok ended)
+DayAnswered right before ahead left taken taken' (Err (Rows fault)) = DayRan right before ahead left taken taken' (Err fault)
+DayAnswered right before ahead left taken taken' (Err (Opening fault)) =
     (taken' ≡ taken) × IsDayOpeningRefused before fault × FaultShows before fault left × (fault ≡ FailedRead → HoldsNoOpening before left)
 
 -- the text is an opening and rows, and is not too long

@@ -3,7 +3,7 @@
 ghost use Rattle.std.specs.Prelude.{◌≡◌, ◌≤◌, None, All, length, IfOk, IsErrOf};
 ghost use Rattle.byte_streams.specs.Streams.{Rose};
 ghost use Rattle.day_simulator.specs.Planning.{PlannerLaw};
-ghost use Rattle.lift_text.specs.LineReader.{text, failure};
+ghost use Rattle.lift_text.specs.LineReader.{text, failure, unread};
 ghost use Rattle.search_model.specs.Days.{served_of};
 ghost use Rattle.day_state.specs.Openings.{IsOpeningSnapshot};
 ghost use Rattle.day_laws.specs.Standing.{IsEarly};
@@ -54,7 +54,8 @@ fn end_day<K: Sink>(alloc: Global, day: Day, sink: &mut K) -> Result<Ended, RunF
 ///
 /// A line of 1 to 4,096 bytes without its end is a row, also the last one where it has no end. A line of no
 /// bytes is none, and a longer one is a row that is refused. What a row does is written before more of the
-/// source is read than what its line takes.
+/// source is read than what its line takes: where a write fails, no line more was read than the one whose row
+/// is written, and no read has failed before.
 ///
 /// After a fault the log is written as far as the rows go that were done before it; where a write failed, a
 /// beginning of that. Memory may run out at any row and at the end, and then what was written before stays. The
@@ -72,7 +73,8 @@ pub fn run_day<P: Planner, S: Source, K: Sink, G: Gate>(
     requires unfailed { failure lines.old ≡ None }
     ensures same_source { lines.new.source.ghost_name ≡ lines.old.source.ghost_name }
     ensures ran { RanDay (P.right planner.now) opening result (text S.left lines.old)
-        (S.left lines.new.source.now) (K.taken sink.old) (K.taken sink.new) }
+        (unread lines.new) (S.left lines.new.source.now) (K.taken sink.old) (K.taken sink.new) }
+    ensures unfailed_by_write { IsErrOf result RunFault.Write → failure lines.new ≡ None }
     ensures early { IfOk result (λ ended. All IsEarly ended.served.items) }
     ensures few { IfOk result (λ ended. length ended.served.items ≤ TEXT_LIMIT) }
     ensures read { IsErrOf result RunFault.Read

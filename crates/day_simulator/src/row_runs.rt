@@ -5,7 +5,7 @@ ghost use Rattle.std.specs.Prelude.{IsErrOf, length, take, ℕ, true, false};
 ghost use Rattle.std.specs.Io.KnownBytes.{append_known};
 ghost use Rattle.byte_streams.specs.Streams.{Rose};
 ghost use Rattle.day_simulator.specs.Planning.{PlannerLaw};
-ghost use Rattle.lift_text.specs.LineReader.{text, line, failure, has_ended};
+ghost use Rattle.lift_text.specs.LineReader.{text, line, failure, unread, has_ended};
 ghost use Rattle.lift_text.specs.Reading.{HaveLineFeeds};
 ghost use Rattle.search_model.specs.Days.{day_after_refused, loses_none};
 ghost use Rattle.search_model.specs.declared.RowFault.TheVariants.{NoRow};
@@ -169,7 +169,7 @@ fn do_next<P: Planner, S: Source>(
     ensures same_source { lines.new.source.ghost_name ≡ lines.old.source.ghost_name }
     ensures next { DidNext (P.right planner.now) day.old day.new result out.new.items
         (text S.left lines.old)
-        (text S.left lines.new) (S.left lines.new.source.now) }
+        (text S.left lines.new) (unread lines.new) (S.left lines.new.source.now) }
     ensures none_lost { IsTrue (loses_none day.new) }
     ensures unfailed { OnOk result (failure lines.new ≡ None) }
     ensures line_feed { result ≡ Ok NextRow.More
@@ -207,9 +207,11 @@ fn write_next<P: Planner, S: Source, K: Sink>(
     requires none_lost { IsTrue (loses_none day.old) }
     ensures same_source { lines.new.source.ghost_name ≡ lines.old.source.ghost_name }
     ensures next { WroteNext (P.right planner.now) day.old day.new result (text S.left lines.old)
-        (text S.left lines.new) (S.left lines.new.source.now) (K.taken sink.old) (K.taken sink.new) }
+        (text S.left lines.new) (unread lines.new) (S.left lines.new.source.now) (K.taken sink.old)
+        (K.taken sink.new) }
     ensures none_lost { IsTrue (loses_none day.new) }
     ensures unfailed { OnOk result (failure lines.new ≡ None) }
+    ensures unfailed_by_write { IsErrOf result RunFault.Write → failure lines.new ≡ None }
     ensures line_feed { result ≡ Ok NextRow.More
         → HaveLineFeeds (text S.left lines.old) 1 (has_ended lines.new) }
     ensures stays_ended { has_ended lines.old ≡ true → has_ended lines.new ≡ true }
@@ -250,8 +252,10 @@ pub(crate) fn run_rows<P: Planner, S: Source, K: Sink, G: Gate>(
     requires none_lost { IsTrue (loses_none day.old) }
     ensures same_source { lines.new.source.ghost_name ≡ lines.old.source.ghost_name }
     ensures ran { Ran (P.right planner.now) day.old day.new result (text S.left lines.old)
-        (S.left lines.new.source.now) (K.taken sink.old) (K.taken sink.new) }
+        (unread lines.new) (S.left lines.new.source.now) (K.taken sink.old) (K.taken sink.new) }
     ensures none_lost { IsTrue (loses_none day.new) }
+    ensures unfailed { OnOk result (failure lines.new ≡ None) }
+    ensures unfailed_by_write { IsErrOf result RunFault.Write → failure lines.new ≡ None }
     ensures number { OnOk result (row_number day.new ≤ line lines.new + 1) }
     ensures read { IsErrOf result RunFault.Read
         → Rose (S.faults lines.old.source.now) (S.faults lines.new.source.now) }

@@ -3,7 +3,7 @@
 ghost use Rattle.std.specs.Prelude.{◌≡◌, ◌<◌, ◌≤◌, ◌^◌, None, IfOk, IsSomeAnd};
 ghost use Rattle.byte_streams.specs.Streams.{Rose};
 ghost use Rattle.day_simulator.specs.Planning.{PlannerLaw};
-ghost use Rattle.lift_text.specs.LineReader.{text, failure};
+ghost use Rattle.lift_text.specs.LineReader.{text, failure, unread};
 ghost use Rattle.search_model.specs.Reports.{report_of};
 ghost use Rattle.day_simulator.specs.TextRuns.{DayAnswered, EndsUnlessFailed, IsDayText, IsUnread};
 ghost use Rattle.day_simulator.specs.TextRuns.{IsUnwritten};
@@ -41,8 +41,9 @@ pub fn run_day_text<P: Planner, S: Source, K: Sink, G: Gate>(
     requires unfailed { failure lines.old ≡ None }
     ensures same_source { lines.new.source.ghost_name ≡ lines.old.source.ghost_name }
     ensures answered { DayAnswered (P.right planner.now) (text S.left lines.old)
-        (S.left lines.new.source.now)
+        (unread lines.new) (S.left lines.new.source.now)
         (K.taken sink.old) (K.taken sink.new) result }
+    ensures unfailed_by_write { IsUnwritten result → failure lines.new ≡ None }
     ensures ends { IsSomeAnd (text S.left lines.old) IsDayText → EndsUnlessFailed result }
     ensures small { IfOk result (λ ended. (report_of ended.served.items).total.sum < 2 ^ 64) }
     ensures read { IsUnread result

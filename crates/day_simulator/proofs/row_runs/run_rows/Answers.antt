@@ -1,5 +1,5 @@
 use Rattle.std.proofs.Common.{refl, arith, ◌∙◌}
-use Rattle.lift_text.specs.LineReader.{text, has_ended}
+use Rattle.lift_text.specs.LineReader.{text, unread, has_ended}
 use Rattle.day_simulator.proofs.StepLemmas.{ran-end, ran-fault, line-so-far}
 use Rattle.day_simulator.proofs.row_runs.run_rows.Goals as goal
 
@@ -10,7 +10,7 @@ returns-in-Ok-End-clause-ran g c =
     let did = rw c.in-Ok-End.field-0-is at c.in-Ok-End.ensures in
     let new = c.write_next.new in
     ran-end (g.P.Planner.right c.args.planner.now) c.args.day.now c.lines.day new.day (text left c.args.lines.now) (text left c.lines.lines)
-    (text left new.lines) (has_ended c.lines.lines) (left new.lines.source.now)
+    (text left new.lines) (has_ended c.lines.lines) (unread new.lines) (left new.lines.source.now)
     (taken c.args.sink.now) (taken c.lines.sink) (taken new.sink) c.lines.invariant.so_far did.next
 
 pub returns-in-Err-clause-ran : goal.returns-in-Err-clause-ran
@@ -20,7 +20,7 @@ returns-in-Err-clause-ran g c =
     let did = c.in-Err.ensures in
     let new = c.write_next.new in
     ran-fault (g.P.Planner.right c.args.planner.now) c.args.day.now c.lines.day new.day c.in-Err.fault (text left c.args.lines.now)
-    (text left c.lines.lines) (text left new.lines) (has_ended c.lines.lines) (has_ended new.lines) (left new.lines.source.now)
+    (text left c.lines.lines) new.lines.page (has_ended c.lines.lines) (has_ended new.lines) (left new.lines.source.now)
     (taken c.args.sink.now) (taken c.lines.sink) (taken new.sink) c.lines.invariant.so_far did.stays_ended did.not_ended did.next
 
 pub lines-preserved : goal.lines-preserved

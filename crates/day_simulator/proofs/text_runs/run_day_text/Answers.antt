@@ -1,5 +1,5 @@
 use Rattle.std.proofs.Common.{Err, ap, refl}
-use Rattle.lift_text.specs.LineReader.{text}
+use Rattle.lift_text.specs.LineReader.{text, unread}
 use Rattle.day_simulator.proofs.TextRunLemmas.{opening-taken, rows-end, small-report}
 use Rattle.day_simulator.proofs.StepLemmas.{rose-before}
 use Rattle.day_simulator.proofs.text_runs.run_day_text.Goals as goal
@@ -28,7 +28,7 @@ returns-in-Err-run_day-clause-ends g c =
     let left = g.S.Source.left in
     let taken = g.K.Sink.taken in
     rows-end (g.P.Planner.right c.args.planner.now) c.in-Ok.opening c.in-Err-run_day.fault (text left c.args.lines.now)
-    (text left c.read_day_opening.new.lines) (left c.run_day.new.lines.source.now) (taken c.args.sink.now)
+    (text left c.read_day_opening.new.lines) (unread c.run_day.new.lines) (left c.run_day.new.lines.source.now) (taken c.args.sink.now)
     (taken c.run_day.new.sink) c.in-Ok.ensures.takes c.in-Err-run_day.ensures.ran
 
 pub returns-in-Err-run_day-clause-read : goal.returns-in-Err-run_day-clause-read
