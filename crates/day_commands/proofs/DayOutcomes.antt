@@ -39,7 +39,7 @@ BeginsDay old = IsSomeAnd (option_map whole_text old.left) IsDayText
 
 -- a day was run, with what is right at each row
 abbrev RanRight : DayOptions → (left left' taken taken' : Option (List ℕ)) → Result Ended RunFault → Type 0
-RanRight options left left' taken taken' result = DayRan (SolvedBy options) (option_map whole_text left) left' taken taken' result
+RanRight options left left' taken taken' result = (ahead : List ℕ) × DayRan (SolvedBy options) (option_map whole_text left) ahead left' taken taken' result
 
 -- ---- `day`
 
@@ -58,7 +58,7 @@ day-done options old new ended result is ran =
       ran = ran-within options old.left new.left old.taken new.taken (Ok ended) ran;
       status_is = refl;
       stopped =
-          λ is. stopped-day options (option_map whole_text old.left) new.left old.taken new.taken ended ran is;
+          λ is. stopped-day options (option_map whole_text old.left) ran.0 new.left old.taken new.taken ended ran.1 is;
     }))
 
 day-short : (options : DayOptions) (old new : Streams) (result : Status) → result ≡ Memory → DayEnds options old new Memory → RunsDay options old new result
@@ -208,7 +208,7 @@ due-at options left left' ended text zero is ran says =
       ran = ran;
       status_is = ap status_of_unsolved is;
       stopped =
-          λ e. stopped-day options (option_map whole_text left) left' None None ended ran.ran (sym (ap status_of_unsolved is) ∙ e);
+          λ e. stopped-day options (option_map whole_text left) ran.ahead left' None None ended ran.ran (sym (ap status_of_unsolved is) ∙ e);
       is_text = says;
     }
 due-at options left left' ended text (suc n) is ran says =
@@ -217,7 +217,7 @@ due-at options left left' ended text (suc n) is ran says =
       ran = ran;
       status_is = ap status_of_unsolved is;
       stopped =
-          λ e. stopped-day options (option_map whole_text left) left' None None ended ran.ran (sym (ap status_of_unsolved is) ∙ e);
+          λ e. stopped-day options (option_map whole_text left) ran.ahead left' None None ended ran.ran (sym (ap status_of_unsolved is) ∙ e);
       is_text = says;
     }
 

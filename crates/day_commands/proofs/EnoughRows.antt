@@ -15,8 +15,8 @@ some-unsolved : (n : ℕ) → status_of_unsolved n ≡ Stopped → 0 < n
 some-unsolved zero is = absurd cc
 some-unsolved (suc n) is = omega arith
 
-pub stopped-day : (options : DayOptions) (before : Option TextState) (left taken taken' : Option (List ℕ)) (ended : Ended)
-    (ran : DayRan (SolvedBy options) before left taken taken' (Ok ended)) → status_of_unsolved ended.unsolved ≡ Stopped → IsDayStopped options ran
-stopped-day options before left taken taken' ended ran is =
+pub stopped-day : (options : DayOptions) (before : Option TextState) (ahead : List ℕ) (left taken taken' : Option (List ℕ)) (ended : Ended)
+    (ran : DayRan (SolvedBy options) before ahead left taken taken' (Ok ended)) → status_of_unsolved ended.unsolved ≡ Stopped → IsDayStopped options ran
+stopped-day options before ahead left taken taken' ended ran is =
     stopped-rows options.search.limits.rounds options.search.limits.most_tours (most_claims options) (opening_day ran.opening)
     (rows_of ran.ran.passed) ran.ran.day ran.ran.text ran.ran.done (subst (λ (n : ℕ). 0 < n) ran.ran.wrote.2 (some-unsolved ended.unsolved is))

@@ -149,14 +149,16 @@ kept-from options input opening (Some from) passed behind Reads day text begins 
     kept-rows (SolvedBy options) (λ s held stated proof row. (row.accepted, row.right_plan.feasible)) (opening_day opening) (rows_of passed) day text
     (opening-kept (whole_text input) opening from begins) (omega (arith, limit, short, count)) done
 
-pub kept-day : (options : DayOptions) (left left' taken taken' : Option (List ℕ)) (result : Result Ended RunFault)
-    (ran : DayRan (SolvedBy options) (option_map whole_text left) left' taken taken' result)
+pub kept-day : (options : DayOptions) (left : Option (List ℕ)) (ahead : List ℕ) (left' taken taken' : Option (List ℕ)) (result : Result Ended RunFault)
+    (ran : DayRan (SolvedBy options) (option_map whole_text left) ahead left' taken taken' result)
     → IfSome left (λ input. AreRowsKept (SolvedBy options) (opening_day ran.opening) (rows_of ran.ran.passed) ran.ran.day ran.ran.text)
-kept-day options None left' taken taken' result ran = tt
-kept-day options (Some input) left' taken taken' result ran =
+kept-day options None ahead left' taken taken' result ran = tt
+kept-day options (Some input) ahead left' taken taken' result ran =
     kept-from options input ran.opening ran.rows ran.ran.passed ran.ran.behind
     (λ from. ReadsDay result from ran.ran.passed ran.ran.behind left') ran.ran.day ran.ran.text ran.read ran.ran.read ran.ran.done
 
 abbrev pub ran-within : (options : DayOptions) (left left' taken taken' : Option (List ℕ)) (result : Result Ended RunFault)
-    → DayRan (SolvedBy options) (option_map whole_text left) left' taken taken' result → RanWithin options left left' taken taken' result
-ran-within options left left' taken taken' result ran = record { ran = ran; kept = kept-day options left left' taken taken' result ran }
+    → (ahead : List ℕ) × DayRan (SolvedBy options) (option_map whole_text left) ahead left' taken taken' result
+    → RanWithin options left left' taken taken' result
+ran-within options left left' taken taken' result told =
+    record { ahead = told.0; ran = told.1; kept = kept-day options left told.0 left' taken taken' result told.1 }

@@ -41,8 +41,8 @@ abbrev pub AreEnoughBy : DayOptions → Snapshot → Type 0
 AreEnoughBy options s = AreEnoughFor options.search.limits.rounds options.search.limits.most_tours (most_claims options) s
 
 -- Of the rows that were done one was accepted where the limits are not enough, and its bound is below its cost.
-abbrev pub IsDayStopped : (options : DayOptions) {before : Option TextState} {left taken taken' : Option (List ℕ)} {result : Result Ended RunFault}
-    → DayRan (SolvedBy options) before left taken taken' result → Type 0
+abbrev pub IsDayStopped : (options : DayOptions) {before : Option TextState} {ahead : List ℕ} {left taken taken' : Option (List ℕ)}
+    {result : Result Ended RunFault} → DayRan (SolvedBy options) before ahead left taken taken' result → Type 0
 IsDayStopped options ran = IsStoppedIn (SolvedBy options) (AreEnoughBy options) (opening_day ran.opening) (rows_of ran.ran.passed) ran.ran.day ran.ran.text
 
 -- ---- how they end
@@ -69,9 +69,10 @@ pub record IsNoDayLine (left left' : Option (List ℕ)) (text : List ℕ) : Type
   pub shows : FaultShows (option_map whole_text left) fault left'
 
 -- A day was run with the limits of the words, and where the source tells what it has left, no accepted call is lost after
--- any of the rows that were done.
+-- any of the rows that were done. These bytes were read ahead (`HoldsDayAhead`).
 pub record RanWithin (options : DayOptions) (left left' taken taken' : Option (List ℕ)) (result : Result Ended RunFault) : Type 0 where
-  pub ran : DayRan (SolvedBy options) (option_map whole_text left) left' taken taken' result
+  pub ahead : List ℕ
+  pub ran : DayRan (SolvedBy options) (option_map whole_text left) ahead left' taken taken' result
   pub kept : IfSome left (λ input. AreRowsKept (SolvedBy options) (opening_day ran.opening) (rows_of ran.ran.passed) ran.ran.day ran.ran.text)
 
 -- a day of `day`

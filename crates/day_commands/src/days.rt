@@ -1,6 +1,6 @@
 //! The commands `day` and `report`.
 
-ghost use Rattle.std.specs.Prelude.{◌≡◌, ◌<◌, ◌≤◌, ◌^◌, None, IfOk, IsSomeAnd, option_map};
+ghost use Rattle.std.specs.Prelude.{◌≡◌, ◌<◌, ◌≤◌, ◌^◌, ℕ, List, None, IfOk, IsSomeAnd, option_map};
 ghost use Rattle.byte_streams.specs.Streams.{Rose};
 ghost use Rattle.lift_text.specs.Reading.{whole_text};
 ghost use Rattle.search_model.specs.Reports.{report_of as report_of_lem};
@@ -48,9 +48,9 @@ fn run_input<S: Source, K: Sink, C: SearchCrew + CountingCrew, G: Gate>(
     sink: &mut K,
 ) -> Result<Ended, DayFault>
     requires { AreDayOptions options }
-    ensures answered { DayAnswered (SolvedBy options)
-        (option_map whole_text (S.left source.old)) (S.left source.new) (K.taken sink.old) (K.taken sink.new)
-        result }
+    ensures answered { (ahead : List ℕ) × DayAnswered (SolvedBy options)
+        (option_map whole_text (S.left source.old)) ahead (S.left source.new) (K.taken sink.old)
+        (K.taken sink.new) result }
     ensures ends { IsSomeAnd (option_map whole_text (S.left source.old)) IsDayText → EndsUnlessFailed result }
     ensures small { IfOk result (λ ended. (report_of_lem ended.served.items).total.sum < 2 ^ 64) }
     ensures read { IsUnread result → Rose (S.faults source.old) (S.faults source.new) }
