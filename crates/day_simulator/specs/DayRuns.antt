@@ -31,8 +31,8 @@ ReadsDay (Err Read) before passed behind left = IsCutOff before passed left
 ReadsDay (Err Write) before passed behind left = Unit {0}
 ReadsDay (Err NoMemory) before passed behind left = Unit {0}
 
--- How far the source was read, where `ahead` is what its reader holds unread: no line more than those that were done, or where
--- memory was wanting for a line, than that one. So it is at every write, since a sink may fail at any of them.
+-- How far the source was read, where `ahead` is what its reader holds unread: no line more than those that were done, where a
+-- write failed that of its row with them; or where memory ran out, maybe the next one. So it is at every write, since any may fail.
 abbrev pub HoldsDayAhead : Result Ended RunFault → TextState → (passed behind : List (List ℕ)) → (ahead : List ℕ) → (left : Option (List ℕ)) → Type 0
 HoldsDayAhead (Ok ended) before passed behind ahead left = AreAhead before passed ahead left
 HoldsDayAhead (Err TooLong) before passed behind ahead left = Unit {0}

@@ -90,10 +90,10 @@ Reads (Err NoMemory) before passed behind left = IsNextLeft behind
 abbrev pub AreAhead : TextState → (passed : List (List ℕ)) → (ahead : List ℕ) → (left : Option (List ℕ)) → Type 0
 AreAhead before passed ahead left = IfSome left (λ later. before.bytes ≡ concat passed ++ (ahead ++ later))
 
--- How far the source was read, where `ahead` is what its reader holds unread: no line more was read than those that were done,
--- the one whose write failed with them, or than the one for which memory was wanting. A sink may fail at any write, and nothing
--- tells before. So whenever rows are written the reader stands right behind their line, and it asks the source for more only
--- where it holds no whole line.
+-- How far the source was read, where `ahead` is what its reader holds unread: no line more than those that were done, where a
+-- write failed that of its row with them; or than the line for which memory was wanting. A sink may fail at any write, and
+-- nothing tells before. So whenever a row is written the reader stands right behind its line, and it asks the source for more
+-- only where it holds no whole line.
 abbrev pub HoldsAhead : Result Unit RunFault → TextState → (passed behind : List (List ℕ)) → (ahead : List ℕ) → (left : Option (List ℕ)) → Type 0
 HoldsAhead (Ok done) before passed behind ahead left = AreAhead before passed ahead left
 HoldsAhead (Err TooLong) before passed behind ahead left = Unit {0}

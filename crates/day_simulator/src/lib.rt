@@ -18,8 +18,9 @@
 //!   how many rows had a bound below their cost.
 //! - `run_day_text` and `run_day`, over the lines of a text and for any planner: which rows were read, done
 //!   and written, whatever fails, with each row's lines written before more of the source is read than what
-//!   its line takes. Where nothing fails and the text is an opening and rows, the whole log and the served
-//!   calls, whose times' sums stay below 2^64.
+//!   its line takes: where a write fails, the reader stands right behind the line of the row that is written
+//!   (`HoldsDayAhead`), and no read has failed before. Where nothing fails and the text is an opening and
+//!   rows, the whole log and the served calls, whose times' sums stay below 2^64.
 //!
 //! # What holds between rows
 //!
@@ -48,6 +49,11 @@
 //! (`HoldsNoOpening`); else the lines are exactly those that are whole, with their LF, among them
 //! (`IsCutOff`); after a failed write a beginning of the log was written, and of its end only where no line
 //! was left (`IsCutIn`); an input that is too long stops before the line that does not end within the limit.
+//! After a failed write, and where memory ran out, no line was read behind that of the row that was being
+//! written or planned (`HoldsDayAhead`). A contract tells what was before and after a call, and not in which
+//! order it came; but since a sink may fail at any write, and a source at any read, these ends speak of all of
+//! them: at each write no later line was read, and at each read all rows before it were written, as none is
+//! written after a failed read.
 //! Where the text is an opening and rows, only a failed read or write and running out of memory keep the day
 //! from its end (`EndsUnlessFailed`).
 #![tactic(auto)]
