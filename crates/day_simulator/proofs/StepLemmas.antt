@@ -5,7 +5,7 @@ use Rattle.std.specs.Prelude.{IfErr, IfSome, IsErrOf, IsSomeAnd, OnOk}
 use Rattle.std.specs.List.{concat}
 use Rattle.std.specs.Io.KnownBytes.{append_known}
 use Rattle.std.proofs.Math.Seq.{take-append-add}
-use Rattle.std.proofs.lemmas.List.{length-append}
+use Rattle.std.proofs.lemmas.List.{append_cancel_left, length-append}
 use Rattle.std.proofs.lemmas.Bool.{false≢true}
 use Rattle.std.proofs.lemmas.List.Elements.{All-head, All-nil, All-push}
 use Rattle.std.proofs.lemmas.List.Folds.{concat-append}
@@ -14,6 +14,7 @@ use Rattle.search_model.specs.Days.{Day}
 use Rattle.lift_text.specs.Lines.{pieces_of, HasWholeLine}
 use Rattle.lift_text.specs.Page.{PageState, text_at}
 use Rattle.lift_text.specs.Reading.{TextState, HaveLineFeeds}
+use Rattle.lift_text.proofs.ShowLemmas.{concat-pieces}
 use Rattle.day_laws.specs.RowLines.{rows_of}
 use Rattle.day_simulator.specs.RowRuns.{Right, AreAhead, AreRowsDone, DidNext, HoldsAhead, IsLineBetween, IsLineDone, IsStopped, Ran, ReadLines, Reads}
 use Rattle.day_simulator.specs.RowRuns.{StopsAt, Wrote, WroteNext, bytes_of, next_written}
@@ -211,6 +212,14 @@ ahead-held (Some from) page passed (Some later) so = so.bytes
 pub nothing-ahead : (page : PageState) (left : Option (List ℕ)) → IfSome (text_at page left) (λ from. AreAhead from [] page.unread left)
 nothing-ahead page None = tt
 nothing-ahead page (Some later) = refl
+
+-- So the lines behind are what the reader holds and what the source has left: after a failed write of a row with other rows
+-- behind it, not all of the source was read and done with.
+pub left-behind : (before : TextState) (passed behind : List (List ℕ)) (ahead later : List ℕ) → ReadLines before passed behind
+    → AreAhead before passed ahead (Some later) → concat behind ≡ ahead ++ later
+left-behind before passed behind ahead later read held =
+    append_cancel_left (concat passed) (concat behind) (ahead ++ later)
+    (sym (concat-append passed behind) ∙ ap concat (sym read.pieces) ∙ concat-pieces before.bytes ∙ held)
 
 -- what was read where a run stops
 read-stopped : (result : Result Unit RunFault) (before at : Option TextState) (passed : List (List ℕ)) (ahead : List ℕ) (left : Option (List ℕ))
