@@ -213,8 +213,7 @@ pub nothing-ahead : (page : PageState) (left : Option (List ℕ)) → IfSome (te
 nothing-ahead page None = tt
 nothing-ahead page (Some later) = refl
 
--- So the lines behind are what the reader holds and what the source has left: after a failed write of a row with other rows
--- behind it, not all of the source was read and done with.
+-- So the lines behind are what the reader holds and what the source has left: none, where all of the source was read.
 pub left-behind : (before : TextState) (passed behind : List (List ℕ)) (ahead later : List ℕ) → ReadLines before passed behind
     → AreAhead before passed ahead (Some later) → concat behind ≡ ahead ++ later
 left-behind before passed behind ahead later read held =
