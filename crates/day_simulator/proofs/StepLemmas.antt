@@ -264,16 +264,16 @@ ran-unwritten : (right : Right) (a b c : Day) (text : List ℕ) (count : ℕ) (b
     → count ≤ length text → sink'' ≡ append_known sink' (take count text) → Ran right a c (Err Write) before page.unread left sink sink''
 ran-unwritten right a b c text count before at page ended left sink sink' sink'' so done few wrote =
     let after = text_at page left in
-    let passed = so.passed ++ done.piece ∷ [] in
-    let read = read-more before at after so.passed done.piece so.read done.next in
+    let lines = so.passed ++ done.piece ∷ [] in
+    let between = read-more before at after so.passed done.piece so.read done.next in
     let size = length-append so.text text in
     record {
-      passed = passed;
+      passed = lines;
       behind = left_lines after;
       text = so.text ++ text;
       done = line-more right a b c so.passed done.piece so.text text so.done done.done;
-      read = read-unwritten before after passed left read;
-      read_ahead = ahead-held before page passed left read;
+      read = read-unwritten before after lines left between;
+      read_ahead = ahead-held before page lines left between;
       wrote = (
         length so.text + count,
         omega (arith, size, few),
