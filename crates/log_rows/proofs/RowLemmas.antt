@@ -1,18 +1,21 @@
 -- Rows in front of a log: line by line, and all of them.
-use Rattle.std.proofs.Common.{◌≡◌, ℕ, ◌+◌, ◌<◌, ◌≤◌, Bool, cond, ltb, List, [], ◌∷◌, ◌++◌, length, map, Option, None, Some, IfSome, Result, Ok, Err, OnOk, refl}
+use Rattle.std.proofs.Common.{◌≡◌, ℕ, ◌+◌, ◌-◌, ◌<◌, ◌≤◌, Bool, cond, ltb, List, [], ◌∷◌, ◌++◌, length, map, drop, Option, None, Some, IfSome, Result, Ok, Err}
+use Rattle.std.proofs.Common.{IfErr, OnOk, refl}
 use Rattle.std.proofs.Common.{sym, ap, ◌∙◌, subst, arith}
 use Rattle.std.specs.Prelude.{All, IsSomeAnd, option_map, codes}
 use Rattle.std.proofs.lemmas.Bool.{false_from_ne_true, ltb-true, lt-ltb}
-use Rattle.std.proofs.lemmas.List.{append-nil, append_assoc, length-append, length_push, map-append, map_push}
+use Rattle.std.proofs.lemmas.List.{append-nil, append_assoc, drop_at, length-append, length_push, map-append, map_push}
 use Rattle.std.proofs.lemmas.List.Elements.{All-nil, All-push}
 use Rattle.elevator_model.specs.Building.{Building}
 use Rattle.search_model.specs.Days.{Row}
 use Rattle.lift_text.specs.Lines.{pieces_of, line_of}
 use Rattle.lift_text.specs.Reading.{TextState, NextRaw, Passed, line_limit}
+use Rattle.lift_text.specs.Shows.{FaultShows, WentOn}
 use Rattle.lift_text.specs.declared.faults.RawLine.TheVariants.{Line, Long, End}
 use Rattle.lift_text.specs.declared.codes.TextCode.TheVariants.{CutShort}
 use Rattle.lift_text.specs.declared.faults.TextFault.{TextFault}
 use Rattle.lift_text.specs.declared.faults.TextFault.TheVariants.{Bad, NoMemory, Read, TooLong}
+use Rattle.lift_text.proofs.CrossLemmas.{passed_more}
 use Rattle.lift_text.proofs.SkipLemmas.{size_of, size_of-pieces}
 use Rattle.day_text.specs.declared.rows.GoodRow.{GoodRow}
 use Rattle.day_text.specs.Records.{row_as_said, row_of_line, row_within}
@@ -222,3 +225,37 @@ module _ (b : Building) where
   no_log_found None mid now old new fault so_far next = tt
   no_log_found (Some from) None now old new fault so_far next = absurd so_far
   no_log_found (Some from) (Some mid) now old new fault so_far next = told_before from mid old new fault so_far next
+
+-- ---- how far a text went
+
+pub reads_passed : (from to : TextState) (front : List (List ℕ)) → ReadsLines from front to → Passed from to
+reads_passed from to front reads =
+    let count : to.line - from.line ≡ length front = omega (arith, reads.line_is) in
+    let pieces : drop (to.line - from.line) (pieces_of from.bytes) ≡ pieces_of to.bytes = ap (λ (n : ℕ). drop n (pieces_of from.bytes)) count
+    ∙ ap (drop (length front)) reads.pieces ∙ drop_at front (pieces_of to.bytes) (length front) refl in
+    record { lines = omega (arith, reads.line_is); pieces = sym pieces; limit = reads.limit_is }
+
+pub so_far_went : (b : Building) (rows : List (Option GoodRow)) (before now : Option TextState) → RowsSoFar b rows before now → WentOn before now
+so_far_went b rows None now so_far = tt
+so_far_went b rows (Some from) None so_far = absurd so_far
+so_far_went b rows (Some from) (Some here) so_far = reads_passed from here so_far.front so_far.reads
+
+pub rows_went : (b : Building) (rows : List (Option GoodRow)) (before now : Option TextState) → AreRowsGiven b rows before now → WentOn before now
+rows_went b rows None now given = tt
+rows_went b rows (Some from) None given = absurd given
+rows_went b rows (Some from) (Some log) given =
+    passed_more from given.here log (reads_passed from given.here given.front.front given.front.reads)
+    (reads_passed given.here log (given.first ∷ []) given.reads)
+
+-- ---- what shows of a fault
+
+-- only want of memory comes of a line that was read
+pub judged_shows : (b : Building) (line : List ℕ) (old new : List (Option GoodRow)) (answer : Result Before TextFault) (before : Option TextState)
+    (left : Option (List ℕ)) → IsLineJudged b line old new answer → IfErr answer (λ fault. FaultShows before fault left)
+judged_shows b line old new (Ok place) before left judged = tt
+judged_shows b line old new (Err fault) before left judged = subst (λ (f : TextFault). FaultShows before f left) (sym judged) tt
+
+pub added_shows : {E : Type 0} (added : Result Unit E) (answer : Result Before TextFault) (before : Option TextState) (left : Option (List ℕ))
+    → answer ≡ after_added added → IfErr answer (λ fault. FaultShows before fault left)
+added_shows (Ok done) answer before left is = subst (λ (a : Result Before TextFault). IfErr a (λ fault. FaultShows before fault left)) (sym is) tt
+added_shows (Err error) answer before left is = subst (λ (a : Result Before TextFault). IfErr a (λ fault. FaultShows before fault left)) (sym is) tt

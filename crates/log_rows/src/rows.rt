@@ -4,6 +4,7 @@ ghost use Rattle.std.specs.Prelude.{◌≡◌, ◌↔◌, ◌≤◌, ◌+◌, �
 ghost use Rattle.std.specs.Prelude.{IsErrOf, IsTrue, length, codes};
 ghost use Rattle.byte_streams.specs.Streams.{Rose};
 ghost use Rattle.lift_text.specs.LineReader.{text, line, failure};
+ghost use Rattle.lift_text.specs.Shows.{FaultShows};
 ghost use Rattle.day_laws.specs.RowLines.{rows_of_short};
 ghost use Rattle.log_rows.specs.Rows.{AreAdded, AreRowsGiven, Grows, IsGood, IsLineJudged, IsNextTaken};
 ghost use Rattle.log_rows.specs.Rows.{TellsNoLog, after_added as after_added_lem};
@@ -97,6 +98,8 @@ fn take_next<S: Source>(
     ensures taken { IsNextTaken building.now rows.old.items rows.new.items (text S.left lines.old) result
         (text S.left lines.new) }
     ensures grows { OnOk result (Grows building.now rows.old.items rows.new.items) }
+    ensures shows { IfErr result (λ fault.
+        FaultShows (text S.left lines.old) fault (S.left lines.new.source.now)) }
     ensures ok { OnOk result (failure lines.new ≡ None) }
     ensures line { OnOk result (line lines.new ≡ line lines.old + 1) }
     ensures read { IsErrOf result TextFault.Read
@@ -129,6 +132,8 @@ fn read_rows_into<S: Source>(
     ensures good { OnOk result (All (IsGood building.now) rows.new.items) }
     ensures few { OnOk result (length rows.new.items ≤ TEXT_LIMIT + 1) }
     ensures told { IfErr result (TellsNoLog (text S.left lines.old)) }
+    ensures shows { IfErr result (λ fault.
+        FaultShows (text S.left lines.old) fault (S.left lines.new.source.now)) }
     ensures ok { OnOk result (failure lines.new ≡ None) }
     ensures read { IsErrOf result TextFault.Read
         → Rose (S.faults lines.old.source.now) (S.faults lines.new.source.now) }
@@ -150,7 +155,7 @@ fn read_rows_into<S: Source>(
 
 /// Reads the rows up to the first line of the log, which is read, too: the first that is exactly `day 1`.
 ///
-/// `CutShort` comes where no line is that one, at the line after the last.
+/// `CutShort` comes where no line is that one, at the line after the last, where the source is at its end.
 pub fn read_rows<S: Source>(
     alloc: Global,
     lines: &mut LineReader<S>,
@@ -163,6 +168,8 @@ pub fn read_rows<S: Source>(
     ensures good { IfOk result (λ rows. All (IsGood building.now) rows.items) }
     ensures few { IfOk result (λ rows. length rows.items ≤ TEXT_LIMIT + 1) }
     ensures told { IfErr result (TellsNoLog (text S.left lines.old)) }
+    ensures shows { IfErr result (λ fault.
+        FaultShows (text S.left lines.old) fault (S.left lines.new.source.now)) }
     ensures ok { OnOk result (failure lines.new ≡ None) }
     ensures read { IsErrOf result TextFault.Read
         → Rose (S.faults lines.old.source.now) (S.faults lines.new.source.now) }

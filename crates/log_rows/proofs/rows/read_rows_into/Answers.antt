@@ -1,8 +1,9 @@
 use Rattle.std.proofs.Common.{All, ap, arith, length, refl, subst, sym, ◌∙◌}
 use Rattle.std.proofs.lemmas.List.Elements.{All-nil}
 use Rattle.lift_text.specs.LineReader.{text}
+use Rattle.lift_text.proofs.ShowLemmas.{fault_behind}
 use Rattle.log_rows.specs.Rows.{IsGood}
-use Rattle.log_rows.proofs.RowLemmas.{log_found, more_so_far, no_log_found, none_so_far}
+use Rattle.log_rows.proofs.RowLemmas.{log_found, more_so_far, no_log_found, none_so_far, so_far_went}
 use Rattle.log_rows.proofs.rows.read_rows_into.Goals as goal
 
 pub lines-init : goal.lines-init
@@ -60,3 +61,11 @@ returns-in-Err-clause-told g c =
     let new = c.take_next.new in
     no_log_found c.args.building.now (text left c.args.lines.now) (text left c.lines.lines)
     (text left new.lines) c.lines.rows.items new.rows.items c.in-Err.fault c.lines.invariant.so_far c.in-Err.ensures.taken
+
+pub returns-in-Err-clause-shows : goal.returns-in-Err-clause-shows
+returns-in-Err-clause-shows g c =
+    let left = g.S.Source.left in
+    let before = text left c.args.lines.now in
+    let here = text left c.lines.lines in
+    fault_behind before here c.in-Err.fault (left c.take_next.new.lines.source.now)
+    (so_far_went c.args.building.now c.lines.rows.items before here c.lines.invariant.so_far) c.in-Err.ensures.shows

@@ -1,8 +1,9 @@
-use Rattle.std.proofs.Common.{ℕ, List, arith, subst}
+use Rattle.std.proofs.Common.{ℕ, ◌+◌, List, arith, subst, sym}
 use Rattle.lift_text.specs.LineReader.{line, raw, text}
+use Rattle.lift_text.specs.Shows.{ShowsEnd}
 use Rattle.day_text.proofs.HeaderReadLemmas.{number_of}
 use Rattle.log_rows.specs.Rows.{IsLineJudged}
-use Rattle.log_rows.proofs.RowLemmas.{end_taken, fault_taken, line_taken, long_grows_after, long_taken}
+use Rattle.log_rows.proofs.RowLemmas.{added_shows, end_taken, fault_taken, judged_shows, line_taken, long_grows_after, long_taken}
 use Rattle.log_rows.proofs.rows.take_next.Goals as goal
 
 pub returns-in-Ok-Line-clause-taken : goal.returns-in-Ok-Line-clause-taken
@@ -45,3 +46,22 @@ returns-in-Err-clause-taken g c =
     let new = c.raw_line.new.self in
     let rows = c.args.rows.now.items in
     fault_taken c.args.building.now rows rows (text left c.args.lines.now) (text left new) (raw new) c.in-Err.fault (c.in-Err.ensures.next c.requires.whole)
+
+pub returns-in-Ok-Line-clause-shows : goal.returns-in-Ok-Line-clause-shows
+returns-in-Ok-Line-clause-shows g c =
+    let left = g.S.Source.left in
+    judged_shows c.args.building.now c.raw.result.now c.args.rows.now.items c.judge_line.new.rows.items c.judge_line.result (text left c.args.lines.now)
+    (left c.raw_line.new.self.source.now) c.judge_line.ensures.judged
+
+pub returns-in-Ok-Long-clause-shows : goal.returns-in-Ok-Long-clause-shows
+returns-in-Ok-Long-clause-shows g c =
+    let left = g.S.Source.left in
+    added_shows c.add_long_row.result c.after_added.result (text left c.args.lines.now) (left c.raw_line.new.self.source.now) c.after_added.ensures
+
+pub returns-in-Ok-End-clause-shows : goal.returns-in-Ok-End-clause-shows
+returns-in-Ok-End-clause-shows g c =
+    let left = g.S.Source.left in
+    let read = rw c.in-Ok-End.field-0-is at c.in-Ok-End.ensures in
+    let before = text left c.args.lines.now in
+    let behind = left c.raw_line.new.self.source.now in
+    subst (λ (n : ℕ). ShowsEnd before (n + 1) behind) (sym c.line.ensures.value) (read.shows c.requires.whole)
