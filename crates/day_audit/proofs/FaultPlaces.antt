@@ -1,13 +1,13 @@
 -- Where a fault that is found in a text stands: a bad line is one that is read, whose end shows, and a text that is too long
 -- has more bytes than may be read.
-use Rattle.std.proofs.Common.{◌≡◌, ℕ, suc, ◌+◌, ◌-◌, ◌<◌, ◌≤◌, ◌⊎◌, inl, inr, Bool, true, false, cond, eqb, ltb, List, [], ◌∷◌, length, drop, get_or, Option}
+use Rattle.std.proofs.Common.{◌≡◌, ℕ, suc, ◌+◌, ◌-◌, ◌<◌, ◌≤◌, ◌⊎◌, inl, inr, Bool, true, false, cond, eqb, ltb, List, [], ◌∷◌, length, get_or, Option}
 use Rattle.std.proofs.Common.{None}
 use Rattle.std.proofs.Common.{Some, refl, sym, ap, ◌∙◌, subst, arith}
 use Rattle.std.specs.Prelude.{IsTrue, nat_lt}
 use Rattle.std.specs.List.{onto_first}
 use Rattle.std.specs.Io.BufRead.{ends_with_byte}
 use Rattle.std.proofs.lemmas.Bool.{and_from, and_parts, false≢true, lt-ltb, ltb-false, ltb-true}
-use Rattle.std.proofs.lemmas.List.{drop_at, get_or-drop}
+use Rattle.std.proofs.lemmas.List.{get_or-drop}
 use Rattle.elevator_model.specs.Snapshot.{Snapshot}
 use Rattle.search_model.specs.declared.Event.{Event}
 use Rattle.search_model.specs.declared.RowFault.{RowFault}
@@ -36,8 +36,7 @@ use Rattle.day_text.specs.DayOpenings.{DayOpeningInFront, IsDayOpeningFault}
 use Rattle.check_text.specs.Pairs.{IsPairFault}
 use Rattle.day_text.specs.LogTexts.{refused_words}
 use Rattle.day_laws.specs.Standing.{row_number}
-use Rattle.log_rows.specs.Rows.{ReadsLines}
-use Rattle.log_rows.proofs.RowLemmas.{rows_are_past}
+use Rattle.log_rows.proofs.RowLemmas.{reads_passed, rows_are_past}
 use Rattle.day_audit.specs.Audits.{AcceptedFinds, AcceptedInFront, EndFinds, FindsBehind as FindsMore, Found, Lacks, LogFinds, ProofFinds, RowFinds, RowInFront}
 use Rattle.day_audit.specs.Audits.{RowsFind, RowsInFront, accepted_lines, bad_section, bad_row, bad_text, day_after, differs, end_lines_of, next_fault}
 use Rattle.day_audit.specs.Audits.{no_proof}
@@ -171,13 +170,6 @@ more_bytes text more = omega (arith, more, size_of-pieces text.bytes)
 
 between_passed : (from to : TextState) (lines : List Line) → AreBetween from lines to → Passed from to
 between_passed from to lines steps = behind_went (Some from) (Some to) (lines, steps)
-
-reads_passed : (from to : TextState) (front : List (List ℕ)) → ReadsLines from front to → Passed from to
-reads_passed from to front reads =
-    let count : to.line - from.line ≡ length front = omega (arith, reads.line_is) in
-    let pieces : drop (to.line - from.line) (pieces_of from.bytes) ≡ pieces_of to.bytes = ap (λ (n : ℕ). drop n (pieces_of from.bytes)) count
-    ∙ ap (drop (length front)) reads.pieces ∙ drop_at front (pieces_of to.bytes) (length front) refl in
-    record { lines = omega (arith, reads.line_is); pieces = sym pieces; limit = reads.limit_is }
 
 -- ---- where a fault stands in what is read
 
