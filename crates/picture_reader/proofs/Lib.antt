@@ -1,3 +1,4 @@
+pub mod TellingLemmas
 pub mod DayReadLemmas
 pub mod WorkedLogs
 pub mod PlanReadLemmas

@@ -1,65 +1,56 @@
--- What was read is what the definitions say, layer by layer.
-use Rattle.std.proofs.Common.{Option, None, Some, Result, Ok, Err, sym, ap, ◌∙◌, subst}
+-- What was read of a plan is what the definitions say, layer by layer.
+use Rattle.std.proofs.Common.{◌≡◌, Option, None, Some, Result, Ok, Err, sym, subst}
 use Rattle.elevator_model.specs.Snapshot.{Snapshot}
 use Rattle.search_model.specs.declared.Stated.{Stated}
 use Rattle.lift_text.specs.Reading.{TextState, Reading, reading}
 use Rattle.lift_text.specs.declared.faults.TextFault.{TextFault}
-use Rattle.lift_text.specs.declared.faults.TextFault.TheVariants.{Bad, NoMemory, Read, TooLong}
-use Rattle.text_sections.specs.Sections.{accepted}
-use Rattle.case_text.specs.CaseTexts.{IsEnd, IsNoEnd, IsReadCase, IsRefusedCase, Tells}
+use Rattle.case_text.specs.CaseTexts.{IsEnd, IsNoEnd, IsReadCase, IsRefusedCase, TakesCases}
+use Rattle.answer_text.specs.Drafts.{after, blank}
 use Rattle.answer_text.specs.Answers.{IsReadAnswer, IsRefusedAnswer}
 use Rattle.lift_picture.specs.declared.scenes.Scene.{Scene}
-use Rattle.picture_reader.specs.PlanScenes.{IsAnswerShown, IsPlanAnswered, IsSceneOf, bad_case, bad_line, behind, line_behind}
-
--- what is told of one thing is told of another that follows
-tells : {P Q : Type 0} (fault : TextFault) → (P → Q) → Tells fault P → Tells fault Q
-tells (Bad line code) f told = f told
-tells TooLong f told = f told
-tells Read f told = tt
-tells NoMemory f told = tt
+use Rattle.picture_reader.specs.PlanScenes.{IsCaseBad, IsCaseInFront, answer_shown, answer_telling, plan_shown, plan_telling}
+use Rattle.picture_reader.specs.Tellings.{IsAnsweredBy, IsSceneOf, SaysAlone, SaysBehind, Shown}
+use Rattle.picture_reader.proofs.TellingLemmas.{IsFrontRead, answered_behind, refused_in_front, section_bad, section_late, section_read}
 
 -- ---- an answer
 
-module _ (s : Snapshot) where
-  pub answer_shown : (before mid : Option TextState) (stated : Stated) (scene : Scene) → IsReadAnswer before s stated mid → IsEnd mid
-      → IsSceneOf s stated scene → IsAnswerShown s before (Ok scene)
-  answer_shown None mid stated scene read ends shown = tt
-  answer_shown (Some from) None stated scene read ends shown = absurd read.2
-  answer_shown (Some from) (Some rest) stated scene read ends shown = record {
-    end = read.0;
-    lines = ends.0;
-    front = read.2 ∙ ap (λ (r : Reading). accepted read.0 r) ends.1;
-    shown = subst (λ (x : Stated). IsSceneOf s x scene) (sym read.1) shown;
-  }
+module _ (s : Snapshot) (before : Option TextState) where
+  pub answer_read : (mid : Option TextState) (stated : Stated) (scene : Scene) → IsReadAnswer before s stated mid → IsEnd mid
+      → IsSceneOf (plan_shown s stated) scene → IsAnsweredBy (answer_telling s) before (Ok scene)
+  answer_read mid stated scene read ends is =
+      section_read after (blank s) (answer_shown s) before mid read.0 scene read.2 ends
+      (subst (λ (x : Stated). IsSceneOf (plan_shown s x) scene) (sym read.1) is)
 
-  pub answer_bad : (before now : Option TextState) (fault : TextFault) → IsRefusedAnswer before s fault now → IsAnswerShown s before (Err fault)
-  answer_bad None now fault refused = tt
-  answer_bad (Some from) now (Bad line code) refused = bad_line refused.1
-  answer_bad (Some from) now TooLong refused = bad_line refused.1
-  answer_bad (Some from) now Read refused = tt
-  answer_bad (Some from) now NoMemory refused = tt
+  pub answer_bad : (now : Option TextState) (fault : TextFault) → IsRefusedAnswer before s fault now → IsAnsweredBy (answer_telling s) before (Err fault)
+  answer_bad now fault bad = section_bad after (blank s) (answer_shown s) before now bad.0 fault bad.1
 
-  pub answer_late : (before mid : Option TextState) (stated : Stated) (fault : TextFault) → IsReadAnswer before s stated mid → IsNoEnd mid fault
-      → IsAnswerShown s before (Err fault)
-  answer_late None mid stated fault read late = tt
-  answer_late (Some from) None stated fault read late = absurd read.2
-  answer_late (Some from) (Some rest) stated fault read late = tells fault (λ is. line_behind read.0 (reading rest) read.2 is) late
-
-  pub answer_unkept : (before : Option TextState) → IsAnswerShown s before (Err NoMemory)
-  answer_unkept None = tt
-  answer_unkept (Some from) = tt
+  pub answer_late : (mid : Option TextState) (stated : Stated) (fault : TextFault) → IsReadAnswer before s stated mid → IsNoEnd mid fault
+      → IsAnsweredBy (answer_telling s) before (Err fault)
+  answer_late mid stated fault read late = section_late after (blank s) (answer_shown s) before mid read.0 fault read.2 late
 
 -- ---- a text
 
-pub plan_answered : (s : Snapshot) (before mid : Option TextState) (answer : Result Scene TextFault) → IsReadCase before s mid → IsAnswerShown s mid answer
-    → IsPlanAnswered before answer
-plan_answered s None mid (Ok scene) case shows = tt
-plan_answered s (Some text) None (Ok scene) case shows = absurd case
-plan_answered s (Some text) (Some from) (Ok scene) case shows = record { snapshot = s; from = reading from; case = case; shows = shows }
-plan_answered s None mid (Err fault) case fails = tt
-plan_answered s (Some text) None (Err fault) case fails = absurd case
-plan_answered s (Some text) (Some from) (Err fault) case fails = tells fault (λ bad. behind s (reading from) case bad) fails
+-- the case in front is the one that was read
+one_case : (text place : TextState) (s : Snapshot) → TakesCases (Some text) (Ok s) (Some place) → (shown : Shown)
+    → SaysBehind IsCaseInFront IsCaseBad answer_telling text shown → (answer_telling s).says place shown
+one_case text place s takes shown says =
+    let same = takes says.said (reading says.place) says.front in
+    subst (λ (x : Snapshot). SaysAlone after (blank x) (answer_shown x) (reading place) shown) (sym same.0)
+    (subst (λ (r : Reading). SaysAlone after (blank says.said) (answer_shown says.said) r shown) (sym same.1) says.told)
 
-pub case_refused : (before : Option TextState) (fault : TextFault) → IsRefusedCase before fault → IsPlanAnswered before (Err fault)
-case_refused None fault refused = tt
-case_refused (Some text) fault refused = tells fault (λ bad. bad_case bad) refused
+case_front : (before mid : Option TextState) (s : Snapshot) → IsReadCase before s mid → TakesCases before (Ok s) mid
+    → IsFrontRead IsCaseInFront IsCaseBad answer_telling before s mid
+case_front None mid s case takes = tt
+case_front (Some text) None s case takes = absurd case
+case_front (Some text) (Some place) s case takes = record { front = case; one = one_case text place s takes }
+
+pub plan_answered : (s : Snapshot) (before mid : Option TextState) (answer : Result Scene TextFault) → IsReadCase before s mid → TakesCases before (Ok s) mid
+    → IsAnsweredBy (answer_telling s) mid answer → IsAnsweredBy plan_telling before answer
+plan_answered s before mid answer case takes told =
+    answered_behind IsCaseInFront IsCaseBad answer_telling before mid s answer (case_front before mid s case takes) told
+
+pub case_refused : (before now : Option TextState) (fault : TextFault) → IsRefusedCase before fault → TakesCases before (Err fault) now
+    → IsAnsweredBy plan_telling before (Err fault)
+case_refused None now fault bad takes = refused_in_front IsCaseInFront IsCaseBad answer_telling None fault tt tt
+case_refused (Some text) now fault bad takes =
+    refused_in_front IsCaseInFront IsCaseBad answer_telling (Some text) fault bad (λ shown says. takes says.said (reading says.place) says.front)

@@ -1,3 +1,4 @@
+pub mod Tellings
 pub mod LogLegs
 pub mod LogDrafts
 pub mod DayScenes

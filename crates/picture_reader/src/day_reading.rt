@@ -1,66 +1,24 @@
 //! Reads what is drawn of a day.
-ghost use Rattle.std.specs.Prelude.{◌≡◌, ◌≤◌, None, IfOk, IsErrOf, OnOk, length};
+ghost use Rattle.std.specs.Prelude.{◌≡◌, ◌≤◌, None, IfErr, IfOk, IsErrOf, OnOk, length};
 ghost use Rattle.std.specs.Io.KnownBytes.{IsAtEnd};
 ghost use Rattle.byte_streams.specs.Streams.{Rose};
 ghost use Rattle.lift_text.specs.LineReader.{text, failure};
-ghost use Rattle.picture_reader.specs.DayScenes.{IsAnswered, IsDayAnswered, IsLogAnswered, IsLogRead};
-ghost use Rattle.picture_reader.specs.DayScenes.{IsSceneOf};
+ghost use Rattle.lift_text.specs.Shows.{FaultShows};
+ghost use Rattle.picture_reader.specs.DayScenes.{day_telling, log_telling, rows_telling};
+ghost use Rattle.picture_reader.specs.Tellings.{IsAnsweredBy};
 
 use crate::log_drafts::LogDraft;
-use crate::log_kinds::Happenings;
 use call_state::Snapshot;
 use case_text::read_end;
 use day_text::{GoodRow, read_day_opening};
-use elevator_model::most_cars;
-use lift_picture::{Axis, Scene};
+use lift_picture::Scene;
 use lift_text::{LineReader, Source, TextFault};
 use log_rows::read_rows;
-use std::alloc::{AllocError, Global};
+use std::alloc::Global;
 use text_sections::read_section;
 
-/// Reads a log behind its first line, up to its line `end`.
-fn read_log<S: Source>(
-    alloc: Global,
-    lines: &mut LineReader<S>,
-    opening: &Snapshot,
-    rows: &[Option<GoodRow>],
-) -> Result<Happenings, TextFault>
-    requires { failure lines.old ≡ None }
-    ensures same_source { lines.new.source.ghost_name ≡ lines.old.source.ghost_name }
-    ensures log { IsLogRead opening.now rows.now (text S.left lines.old) result (text S.left lines.new) }
-    ensures ok { OnOk result (failure lines.new ≡ None) }
-    ensures read { IsErrOf result TextFault.Read
-        → Rose (S.faults lines.old.source.now) (S.faults lines.new.source.now) }
-    ensures counted { S.faults lines.old.source.now ≤ S.faults lines.new.source.now }
-{
-    let mut draft = LogDraft::new(alloc, opening, rows);
-    match read_section(lines, &mut draft) {
-        Ok(()) => Ok(draft.into_happenings()),
-        Err(fault) => Err(fault),
-    }
-}
-
-/// What is drawn of a day that opens so, in which this happened.
-fn scene_of(alloc: Global, opening: &Snapshot, happenings: Happenings) -> Result<Scene, AllocError>
-    ensures scene { IfOk result (IsSceneOf opening.now happenings.legs.items happenings.refusals.items) }
-    ensures few { IfOk result (λ scene. length scene.cars.items ≤ 16) }
-{
-    let building = opening.building();
-    // For the proof: a building has at most 16 cars.
-    let _most = most_cars(building.version());
-    let cars = building.cars().iter().map(|car| car.id).collect(alloc)?;
-    Ok(Scene {
-        axis: Axis::Minutes,
-        floors: building.heights().len() as u32,
-        start: opening.now(),
-        cars,
-        legs: happenings.legs,
-        refusals: happenings.refusals,
-    })
-}
-
 /// Reads a log behind its first line, and the text to its end.
-fn read_whole_log<S: Source>(
+fn read_log<S: Source>(
     alloc: Global,
     lines: &mut LineReader<S>,
     opening: &Snapshot,
@@ -68,19 +26,22 @@ fn read_whole_log<S: Source>(
 ) -> Result<Scene, TextFault>
     requires { failure lines.old ≡ None }
     ensures same_source { lines.new.source.ghost_name ≡ lines.old.source.ghost_name }
-    ensures log { IsLogAnswered opening.now rows.now (text S.left lines.old) result }
+    ensures log { IsAnsweredBy (log_telling opening.now rows.now) (text S.left lines.old) result }
     ensures few { IfOk result (λ scene. length scene.cars.items ≤ 16) }
     ensures ended { OnOk result (IsAtEnd (S.left lines.new.source.now)) }
+    ensures shows { IfErr result (λ fault.
+        FaultShows (text S.left lines.old) fault (S.left lines.new.source.now)) }
     ensures read { IsErrOf result TextFault.Read
         → Rose (S.faults lines.old.source.now) (S.faults lines.new.source.now) }
     ensures counted { S.faults lines.old.source.now ≤ S.faults lines.new.source.now }
 {
-    let happenings = match read_log(alloc, lines, opening, rows) {
-        Ok(happenings) => happenings,
+    let mut draft = LogDraft::new(alloc, opening, rows);
+    match read_section(lines, &mut draft) {
+        Ok(()) => {}
         Err(fault) => return Err(fault),
-    };
+    }
     match read_end(lines) {
-        Ok(()) => match scene_of(alloc, opening, happenings) {
+        Ok(()) => match draft.into_scene(alloc) {
             Ok(scene) => Ok(scene),
             Err(_) => Err(TextFault::NoMemory),
         },
@@ -96,15 +57,17 @@ fn read_day<S: Source>(
 ) -> Result<Scene, TextFault>
     requires { failure lines.old ≡ None }
     ensures same_source { lines.new.source.ghost_name ≡ lines.old.source.ghost_name }
-    ensures day { IsDayAnswered opening.now (text S.left lines.old) result }
+    ensures day { IsAnsweredBy (rows_telling opening.now) (text S.left lines.old) result }
     ensures few { IfOk result (λ scene. length scene.cars.items ≤ 16) }
     ensures ended { OnOk result (IsAtEnd (S.left lines.new.source.now)) }
+    ensures shows { IfErr result (λ fault.
+        FaultShows (text S.left lines.old) fault (S.left lines.new.source.now)) }
     ensures read { IsErrOf result TextFault.Read
         → Rose (S.faults lines.old.source.now) (S.faults lines.new.source.now) }
     ensures counted { S.faults lines.old.source.now ≤ S.faults lines.new.source.now }
 {
     match read_rows(alloc, lines, opening.building()) {
-        Ok(rows) => read_whole_log(alloc, lines, opening, rows.as_slice()),
+        Ok(rows) => read_log(alloc, lines, opening, rows.as_slice()),
         Err(fault) => Err(fault),
     }
 }
@@ -117,17 +80,19 @@ fn read_day<S: Source>(
 /// row that is not the next, totals before each row has its line, a delivery of a call that has not
 /// boarded, and a line after `end`; `Missing` and `TooMany`; `NoNumber` and `OutOfRange`, also for the
 /// number of a row that is not there; `UnknownId` for a car that the building has not, and for the call of
-/// a row that says none. `CutShort` comes where the input ends before `end`. `Read` comes only where a read
-/// of the source failed.
+/// a row that says none. `CutShort` comes where the input ends before `end`. The end of the bad line shows in
+/// the bytes that were taken. `Read` comes only where a read of the source failed.
 pub fn read_day_scene<S: Source>(
     alloc: Global,
     lines: &mut LineReader<S>,
 ) -> Result<Scene, TextFault>
     requires { failure lines.old ≡ None }
     ensures same_source { lines.new.source.ghost_name ≡ lines.old.source.ghost_name }
-    ensures scene { IsAnswered (text S.left lines.old) result }
+    ensures scene { IsAnsweredBy day_telling (text S.left lines.old) result }
     ensures few { IfOk result (λ scene. length scene.cars.items ≤ 16) }
     ensures ended { OnOk result (IsAtEnd (S.left lines.new.source.now)) }
+    ensures shows { IfErr result (λ fault.
+        FaultShows (text S.left lines.old) fault (S.left lines.new.source.now)) }
     ensures read { IsErrOf result TextFault.Read
         → Rose (S.faults lines.old.source.now) (S.faults lines.new.source.now) }
     ensures counted { S.faults lines.old.source.now ≤ S.faults lines.new.source.now }

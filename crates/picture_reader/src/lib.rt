@@ -8,13 +8,14 @@
 //! # What is promised
 //!
 //! - `read_day_scene` reads what `lift day` reads, and behind the line `day 1` the log that it wrote, with
-//!   certificates or without. It gives what is drawn of that day (`IsDayRead`): the wait or the ride that
-//!   each event of the log ends, in the log's order, and the rows that it refuses. Any other text is
-//!   refused with its first bad line and one code (`IsDayFault`).
+//!   certificates or without. It gives what is drawn of that day (`day_telling`): the wait or the ride that
+//!   each event of the log ends, in the log's order, and the rows that it refuses.
 //! - `read_plan_scene` reads a building, a snapshot and an answer, as `solve` writes one, and gives what is
-//!   drawn of its plan (`IsPlanRead`): for each car where it is, each stop, each ride that ends there, and
-//!   the wait of each call that boards there. Any other text is refused with its first bad line and one code
-//!   (`IsPlanFault`).
+//!   drawn of its plan (`plan_telling`): for each car where it is, each stop, each ride that ends there, and
+//!   the wait of each call that boards there.
+//! - Any other text is refused with its first bad line and one code, and that line's end shows in the bytes that
+//!   were taken. Where a text tells a day or a plan, that is read, and only a failed read and want of memory
+//!   come in its place (`IsAnsweredBy` of `specs/Tellings.antt`).
 //!
 //! What each line of a log does is a definition (`after` of `specs/LogDrafts.antt`, with worked rows in
 //! `proofs/WorkedLogs.antt`). Each row has its line, in their order; each event names a row that says a call

@@ -1,5 +1,5 @@
 //! A log behind its first line, as far as it was read.
-ghost use Rattle.std.specs.Prelude.{◌≡◌, ◌<◌, ◌++◌, ◌∷◌, [], IfOk, OnOk, length};
+ghost use Rattle.std.specs.Prelude.{◌≡◌, ◌<◌, ◌≤◌, ◌++◌, ◌∷◌, [], IfOk, OnOk, length};
 ghost use Rattle.elevator_model.specs.Snapshot.{car_count};
 ghost use Rattle.lift_text.specs.LineReader.{words};
 ghost use Rattle.text_sections.specs.Sections.{Did};
@@ -7,14 +7,14 @@ ghost use Rattle.picture_reader.specs.LogDrafts.{is_plan_word as is_plan_word_le
 ghost use Rattle.picture_reader.specs.LogDrafts.{is_proof_word as is_proof_word_lem};
 ghost use Rattle.picture_reader.specs.LogDrafts.{log_word as log_word_lem};
 
-use crate::log_kinds::{Happenings, LogWord, Part, Said};
+use crate::log_kinds::{LogWord, Part, Said};
 use crate::log_legs::{
     Serving, Told, last_of_car, last_wait, refusal_of, ride_leg, row_at, wait_leg,
 };
 use call_state::Snapshot;
 use day_text::GoodRow;
-use elevator_model::LATEST_MOMENT;
-use lift_picture::{Leg, Refusal};
+use elevator_model::{LATEST_MOMENT, most_cars};
+use lift_picture::{Axis, Leg, Refusal, Scene};
 use lift_text::{LineReader, Source, TextCode};
 use snapshot_text::car_named;
 use std::alloc::{AllocError, Global};
@@ -118,6 +118,8 @@ impl<'a> LogDraft<'a> {
     ghost use Rattle.picture_reader.specs.LogLegs.{row_at as row_at_lem, row_known};
     ghost use Rattle.picture_reader.specs.LogLegs.{last_wait as last_wait_lem};
     ghost use Rattle.picture_reader.specs.LogLegs.{wait_known};
+    ghost use Rattle.picture_reader.specs.DayScenes.{day_shown};
+    ghost use Rattle.picture_reader.specs.Tellings.{IsSceneOf};
 
     /// A log of which only the first line was read: of a day that opens so, over these rows.
     pub(crate) fn new(
@@ -137,15 +139,24 @@ impl<'a> LogDraft<'a> {
         }
     }
 
-    /// What the log tells.
-    pub(crate) fn into_happenings(self) -> Happenings
-        ensures legs { result.legs.items ≡ self.entry.legs }
-        ensures refusals { result.refusals.items ≡ self.entry.refusals }
+    /// What is drawn of the day.
+    pub(crate) fn into_scene(self, alloc: Global) -> Result<Scene, AllocError>
+        ensures scene { IfOk result (IsSceneOf (day_shown self.entry)) }
+        ensures few { IfOk result (λ scene. length scene.cars.items ≤ 16) }
     {
-        Happenings {
+        let opening = self.opening;
+        let building = opening.building();
+        // For the proof: a building has at most 16 cars.
+        let _most = most_cars(building.version());
+        let cars = building.cars().iter().map(|car| car.id).collect(alloc)?;
+        Ok(Scene {
+            axis: Axis::Minutes,
+            floors: building.heights().len() as u32,
+            start: opening.now(),
+            cars,
             legs: self.legs,
             refusals: self.refusals,
-        }
+        })
     }
 
     /// The row of this number.

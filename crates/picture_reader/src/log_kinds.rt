@@ -2,13 +2,6 @@
 
 use lift_picture::{Leg, Refusal};
 
-/// What a log tells.
-#[derive(Drop)]
-pub(crate) struct Happenings {
-    pub legs: Vec<Leg>,
-    pub refusals: Vec<Refusal>,
-}
-
 /// Where the next line of a log stands.
 #[derive(Clone, Copy)]
 pub(crate) enum Part {

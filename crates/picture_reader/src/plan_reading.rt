@@ -1,10 +1,12 @@
 //! Reads what is drawn of a plan.
-ghost use Rattle.std.specs.Prelude.{◌≡◌, ◌≤◌, None, IfOk, IsErrOf, OnOk, length};
+ghost use Rattle.std.specs.Prelude.{◌≡◌, ◌≤◌, None, IfErr, IfOk, IsErrOf, OnOk, length};
 ghost use Rattle.std.specs.Io.KnownBytes.{IsAtEnd};
 ghost use Rattle.byte_streams.specs.Streams.{Rose};
 ghost use Rattle.elevator_model.specs.Snapshot.{car_count};
 ghost use Rattle.lift_text.specs.LineReader.{text, failure};
-ghost use Rattle.picture_reader.specs.PlanScenes.{IsAnswerShown, IsPlanAnswered, IsSceneOf};
+ghost use Rattle.lift_text.specs.Shows.{FaultShows};
+ghost use Rattle.picture_reader.specs.PlanScenes.{answer_telling, plan_shown, plan_telling};
+ghost use Rattle.picture_reader.specs.Tellings.{IsAnsweredBy, IsSceneOf};
 
 use crate::plan_tours::plan_legs;
 use answer_text::read_answer;
@@ -19,7 +21,7 @@ use std::alloc::{AllocError, Global};
 /// What is drawn of the plan of an answer.
 fn scene_of(alloc: Global, snapshot: &Snapshot, stated: &Stated) -> Result<Scene, AllocError>
     requires { length stated.now.plan ≡ car_count snapshot.now }
-    ensures scene { IfOk result (IsSceneOf snapshot.now stated.now) }
+    ensures scene { IfOk result (IsSceneOf (plan_shown snapshot.now stated.now)) }
     ensures few { IfOk result (λ scene. length scene.cars.items ≤ 16) }
 {
     let building = snapshot.building();
@@ -45,9 +47,11 @@ fn read_plan<S: Source>(
 ) -> Result<Scene, TextFault>
     requires { failure lines.old ≡ None }
     ensures same_source { lines.new.source.ghost_name ≡ lines.old.source.ghost_name }
-    ensures answer { IsAnswerShown snapshot.now (text S.left lines.old) result }
+    ensures answer { IsAnsweredBy (answer_telling snapshot.now) (text S.left lines.old) result }
     ensures few { IfOk result (λ scene. length scene.cars.items ≤ 16) }
     ensures ended { OnOk result (IsAtEnd (S.left lines.new.source.now)) }
+    ensures shows { IfErr result (λ fault.
+        FaultShows (text S.left lines.old) fault (S.left lines.new.source.now)) }
     ensures read { IsErrOf result TextFault.Read
         → Rose (S.faults lines.old.source.now) (S.faults lines.new.source.now) }
     ensures counted { S.faults lines.old.source.now ≤ S.faults lines.new.source.now }
@@ -69,16 +73,19 @@ fn read_plan<S: Source>(
 /// plan. The allocator comes first.
 ///
 /// The first bad line decides, with its number and one code: those of `read_case` and of `read_answer`, and
-/// `OutOfOrder` for a line behind the answer. `Read` comes only where a read of the source failed.
+/// `OutOfOrder` for a line behind the answer. The end of the bad line shows in the bytes that were taken. `Read`
+/// comes only where a read of the source failed.
 pub fn read_plan_scene<S: Source>(
     alloc: Global,
     lines: &mut LineReader<S>,
 ) -> Result<Scene, TextFault>
     requires { failure lines.old ≡ None }
     ensures same_source { lines.new.source.ghost_name ≡ lines.old.source.ghost_name }
-    ensures scene { IsPlanAnswered (text S.left lines.old) result }
+    ensures scene { IsAnsweredBy plan_telling (text S.left lines.old) result }
     ensures few { IfOk result (λ scene. length scene.cars.items ≤ 16) }
     ensures ended { OnOk result (IsAtEnd (S.left lines.new.source.now)) }
+    ensures shows { IfErr result (λ fault.
+        FaultShows (text S.left lines.old) fault (S.left lines.new.source.now)) }
     ensures read { IsErrOf result TextFault.Read
         → Rose (S.faults lines.old.source.now) (S.faults lines.new.source.now) }
     ensures counted { S.faults lines.old.source.now ≤ S.faults lines.new.source.now }
