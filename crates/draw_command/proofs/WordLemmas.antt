@@ -7,7 +7,7 @@ use Rattle.clap.proofs.OnLiterals.{clap_on_literals}
 use Rattle.option_words.specs.Given.{AreGiven}
 use Rattle.option_words.specs.Options.{IsPlain}
 use Rattle.lift_picture.specs.declared.frames.Size.{Size}
-use Rattle.draw_command.specs.Words.{AreTaken, AsksForSize, IsSecond, app, subject_named, word_of}
+use Rattle.draw_command.specs.Words.{AreTaken, IsSecond, app, size_asked, subject_named, word_of}
 use Rattle.draw_command.specs.declared.words.Request.{Request}
 use Rattle.draw_command.specs.declared.words.Subject.{Subject}
 use Rattle.draw_command.specs.declared.words.Subject.TheVariants.{Day, Plan}
@@ -48,12 +48,6 @@ word_names Plan = refl
 
 -- ---- what is asked for
 
-size_one : (rows : List Row) (a b : Size) → AsksForSize rows a → AsksForSize rows b → a ≡ b
-size_one rows a b x y =
-    let width = only (sym x.width ∙ y.width) in
-    let height = only (sym x.height ∙ y.height) in
-    λ i. record { width = width i; height = height i }
-
 module _ (words : List Text) (named : Subject) (second : IsSecond words named) where
   taken_subject : (request : Request) → AreTaken words request → request.subject ≡ named
   taken_subject request t =
@@ -63,20 +57,18 @@ module _ (words : List Text) (named : Subject) (second : IsSecond words named) w
   taken_given : (request : Request) (t : AreTaken words request) → AreGiven (app named) words t.rows
   taken_given request t = subst (λ k. AreGiven (app k) words t.rows) (taken_subject request t) t.given
 
-  pub taken : (rows : List Row) (size : Size) → AreGiven (app named) words rows → AsksForSize rows size
+  pub taken : (rows : List Row) (size : Size) → AreGiven (app named) words rows → size_asked rows ≡ Some size
       → AreTaken words (record { subject = named; size = size })
   taken rows size given asks = record { subject = second; rows = rows; given = given; size = asks }
 
-  taken_size : (rows : List Row) → AreGiven (app named) words rows → (request : Request) → AreTaken words request → AsksForSize rows request.size
-  taken_size rows given request t =
-      let mine = taken_given request t in
-      subst (λ r. AsksForSize r request.size) (mine.found ∙ sym given.found) t.size
+  taken_size : (rows : List Row) → AreGiven (app named) words rows → (request : Request) → AreTaken words request → size_asked rows ≡ Some request.size
+  taken_size rows given request t = ap size_asked (given.found ∙ sym (taken_given request t).found) ∙ t.size
 
-  pub taken_one : (rows : List Row) (size : Size) → AreGiven (app named) words rows → AsksForSize rows size → (other : Request) → AreTaken words other
+  pub taken_one : (rows : List Row) (size : Size) → AreGiven (app named) words rows → size_asked rows ≡ Some size → (other : Request) → AreTaken words other
       → other ≡ record { subject = named; size = size }
   taken_one rows size given asks other t =
       let subject = taken_subject other t in
-      let same = size_one rows other.size size (taken_size rows given other t) asks in
+      let same = only (sym (taken_size rows given other t) ∙ asks) in
       λ i. record { subject = subject i; size = same i }
 
   -- where options are not given so, no picture is asked for
@@ -84,6 +76,6 @@ module _ (words : List Text) (named : Subject) (second : IsSecond words named) w
   refused_by_options none request t = none t.rows (taken_given request t)
 
   -- nor where they ask for no size
-  pub refused_by_rows : (rows : List Row) → AreGiven (app named) words rows → ((size : Size) → AsksForSize rows size → ⊥) → (request : Request)
-      → AreTaken words request → ⊥
-  refused_by_rows rows given none request t = none request.size (taken_size rows given request t)
+  pub refused_by_rows : (rows : List Row) → AreGiven (app named) words rows → size_asked rows ≡ None → (request : Request) → AreTaken words request → ⊥
+  refused_by_rows rows given none request t =
+      let clash : None ≡ Some request.size = sym none ∙ taken_size rows given request t in absurd cc

@@ -7,9 +7,8 @@ use Rattle.clap.specs.Walk.{Text}
 use Rattle.option_words.specs.Given.{AreUnclear}
 use Rattle.option_words.specs.Repeats.{Repeats}
 use Rattle.lift_picture.specs.declared.frames.Size.{Size}
-use Rattle.draw_command.specs.Words.{AreTaken, IsSecond, app, number_of}
+use Rattle.draw_command.specs.Words.{AreTaken, IsSecond, app, size_asked}
 use Rattle.draw_command.specs.declared.words.Request.{Request}
-use Rattle.draw_command.specs.declared.words.SizeOption.TheVariants.{Width, Height}
 use Rattle.draw_command.specs.declared.words.Subject.{Subject}
 use Rattle.draw_command.specs.declared.words.Subject.TheVariants.{Day, Plan}
 
@@ -54,7 +53,7 @@ by_defaults = record {
   subject = refl;
   rows = matches_of (app Day) (codes "day" ∷ []);
   given = record { clear = no_word; accepted = refl; found = refl };
-  size = record { width = refl; height = refl };
+  size = refl;
 }
 
 of_a_plan : AreTaken (codes "lift_draw" ∷ codes "plan" ∷ codes "--height=0733" ∷ []) (asks Plan 1200 733)
@@ -63,7 +62,7 @@ of_a_plan = record {
   subject = refl;
   rows = matches_of (app Plan) (codes "plan" ∷ codes "--height=0733" ∷ []);
   given = record { clear = one_word (codes "--height=0733") (λ e. absurd cc); accepted = refl; found = refl };
-  size = record { width = refl; height = refl };
+  size = refl;
 }
 
 by_next_word : AreTaken (codes "lift_draw" ∷ codes "day" ∷ codes "--width" ∷ codes "917" ∷ []) (asks Day 917 600)
@@ -78,7 +77,7 @@ by_next_word = record {
     accepted = refl;
     found = refl;
   };
-  size = record { width = refl; height = refl };
+  size = refl;
 }
 
 by_both : AreTaken (codes "lift_draw" ∷ codes "day" ∷ codes "--height=10000" ∷ codes "--width=400" ∷ []) (asks Day 400 10000)
@@ -92,22 +91,22 @@ by_both = record {
     accepted = refl;
     found = refl;
   };
-  size = record { width = refl; height = refl };
+  size = refl;
 }
 
 -- ---- words that ask for none
 
 too_small : (size : Size) → AreTaken (codes "lift_draw" ∷ codes "day" ∷ codes "--width=399" ∷ []) (record { subject = Day; size = size }) → ⊥
 unfolding clap_on_literals
-too_small size t = let none : None ≡ Some size.width = sym (ap (λ r. number_of r Width) t.given.found) ∙ t.size.width in absurd cc
+too_small size t = let none : None ≡ Some size = sym (ap size_asked t.given.found) ∙ t.size in absurd cc
 
 too_great : (size : Size) → AreTaken (codes "lift_draw" ∷ codes "plan" ∷ codes "--height=10001" ∷ []) (record { subject = Plan; size = size }) → ⊥
 unfolding clap_on_literals
-too_great size t = let none : None ≡ Some size.height = sym (ap (λ r. number_of r Height) t.given.found) ∙ t.size.height in absurd cc
+too_great size t = let none : None ≡ Some size = sym (ap size_asked t.given.found) ∙ t.size in absurd cc
 
 no_number : (size : Size) → AreTaken (codes "lift_draw" ∷ codes "day" ∷ codes "--width=5e2" ∷ []) (record { subject = Day; size = size }) → ⊥
 unfolding clap_on_literals
-no_number size t = let none : None ≡ Some size.width = sym (ap (λ r. number_of r Width) t.given.found) ∙ t.size.width in absurd cc
+no_number size t = let none : None ≡ Some size = sym (ap size_asked t.given.found) ∙ t.size in absurd cc
 
 no_value : (size : Size) → AreTaken (codes "lift_draw" ∷ codes "day" ∷ codes "--height" ∷ []) (record { subject = Day; size = size }) → ⊥
 unfolding clap_on_literals

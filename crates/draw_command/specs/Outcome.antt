@@ -1,99 +1,88 @@
 -- What the program leaves: what was read and written, and why it ended.
-use Rattle.std.specs.Prelude.{◌≡◌, ℕ, ◌⊎◌, List, codes, Option, Some, Result}
-use Rattle.std.specs.Io.KnownBytes.{IsAtEnd}
+use Rattle.std.specs.Prelude.{◌≡◌, ℕ, ◌≤◌, ◌⊎◌, List, length, codes}
 use Rattle.byte_streams.specs.Streams.{Rose}
-use Rattle.lift_text.specs.Reading.{TextState, reading, whole_text}
-use Rattle.lift_text.specs.declared.faults.TextFault.{TextFault}
+use Rattle.lift_text.specs.Reading.{TextState}
+use Rattle.lift_picture.specs.declared.frames.Size.{Size}
 use Rattle.lift_picture.specs.declared.scenes.Scene.{Scene}
 use Rattle.lift_picture.specs.Svg.{picture_text}
-use Rattle.picture_reader.specs.DayScenes.{IsAnswered, IsDayFault, IsDayRead}
-use Rattle.picture_reader.specs.PlanScenes.{IsPlanAnswered, IsPlanFault, IsPlanRead}
-use Rattle.command_ends.specs.Ends.{Streams, DueTexts, IsRefusalLine}
+use Rattle.picture_reader.specs.DayScenes.{day_telling}
+use Rattle.picture_reader.specs.PlanScenes.{plan_telling}
+use Rattle.picture_reader.specs.Tellings.{IsSceneOf, Shown, Telling}
+use Rattle.command_ends.specs.declared.input_faults.InputFault.{InputFault}
+use Rattle.command_ends.specs.declared.input_faults.InputFault.TheVariants.{Text, Own}
 use Rattle.command_ends.specs.declared.status.Status.{Status}
 use Rattle.command_ends.specs.declared.status.Status.TheVariants.{Done, Words, Stopped, Refused, Input, Read, Write, Memory}
+use Rattle.command_ends.specs.Ends.{DueTexts, Ends, Streams}
+use Rattle.command_ends.specs.WholeTexts.{Form}
+use Rattle.command_ends.specs.Runs.{Runs}
 use Rattle.draw_command.specs.declared.words.Request.{Request}
 use Rattle.draw_command.specs.declared.words.Subject.{Subject}
 use Rattle.draw_command.specs.declared.words.Subject.TheVariants.{Day, Plan}
 use Rattle.draw_command.specs.Words.{AreTaken}
 
--- the text tells this scene: of a day, or of a plan
-abbrev pub TellsScene : Subject → TextState → Scene → Type 0
-TellsScene Day text scene = IsDayRead text scene
-TellsScene Plan text scene = IsPlanRead (reading text) scene
+-- ---- what is read
 
--- or this is wrong with it
-abbrev pub IsSceneFault : Subject → TextState → TextFault → Type 0
-IsSceneFault Day text fault = IsDayFault text fault
-IsSceneFault Plan text fault = IsPlanFault (reading text) fault
+-- what a text tells of this subject
+abbrev pub telling_of : Subject → Telling
+telling_of Day = day_telling
+telling_of Plan = plan_telling
 
--- what the reader answers
-abbrev pub IsSceneAnswered : Subject → Option TextState → Result Scene TextFault → Type 0
-IsSceneAnswered Day before answer = IsAnswered before answer
-IsSceneAnswered Plan before answer = IsPlanAnswered before answer
+-- a line can be bad, or the text too long
+abbrev pub IsWrong : Telling → TextState → InputFault → Type 0
+IsWrong telling text (Text fault) = telling.wrong text fault
+IsWrong telling text (Own line code) = ⊥
 
--- The picture is due where the whole input was read, and tells what is drawn.
-pub record PictureIsDue (request : Request) (left left' : Option (List ℕ)) (text : List ℕ) : Type 0 where
-  pub scene : Scene
-  pub read : (input : List ℕ) → left ≡ Some input → TellsScene request.subject (whole_text input) scene
-  pub ended : IsAtEnd left'
-  pub drawn : text ≡ picture_text request.size scene
+-- a text that tells what is drawn, or what is wrong with it
+abbrev pub scene_form : Subject → Form Scene
+scene_form subject = record {
+  Meaning = Shown;
+  says = λ text shown. (telling_of subject).says text shown;
+  wrong = IsWrong (telling_of subject);
+  means = λ scene shown. IsSceneOf shown scene;
+  right = λ scene. length scene.cars.items ≤ 16;
+}
 
--- The refusal line is due where the input tells no scene, with what is wrong with it.
-pub record DrawRefusalIsDue (subject : Subject) (left : Option (List ℕ)) (text : List ℕ) : Type 0 where
-  pub fault : TextFault
-  pub is_line : IsRefusalLine fault text
-  pub read : (input : List ℕ) → left ≡ Some input → IsSceneFault subject (whole_text input) fault
+-- ---- what is written
 
--- the texts of what is asked for, by what the source had left before it and has left behind it
-abbrev pub DrawsDue : Request → (left left' : Option (List ℕ)) → DueTexts
-DrawsDue request left left' Done text = PictureIsDue request left left' text
-DrawsDue request left left' Words text = ⊥
-DrawsDue request left left' Stopped text = ⊥
-DrawsDue request left left' Refused text = ⊥
-DrawsDue request left left' Input text = DrawRefusalIsDue request.subject left text
-DrawsDue request left left' Read text = ⊥
-DrawsDue request left left' Write text = ⊥
-DrawsDue request left left' Memory text = ⊥
+-- the picture of the scene, in this size
+abbrev pub IsDrawn : Size → Scene → DueTexts
+IsDrawn size scene Done text = text ≡ picture_text size scene
+IsDrawn size scene Words text = ⊥
+IsDrawn size scene Stopped text = ⊥
+IsDrawn size scene Refused text = ⊥
+IsDrawn size scene Input text = ⊥
+IsDrawn size scene Read text = ⊥
+IsDrawn size scene Write text = ⊥
+IsDrawn size scene Memory text = ⊥
 
-abbrev pub usage_text : List ℕ
-usage_text = codes "usage: lift_draw day|plan [--width N] [--height N]\n"
+-- What is asked for is read to its end and drawn, and any other input is refused.
+abbrev pub RunsDraw : Request → (old new : Streams) → Status → Type 0
+RunsDraw request old new status = Runs (scene_form request.subject) (IsDrawn request.size) old new status
+
+-- so by words that ask for a picture
+abbrev pub DrawsByWords : (words : List (List ℕ)) → (old new : Streams) → Status → Type 0
+DrawsByWords words old new status = (request : Request) → AreTaken words request → RunsDraw request old new status
+
+-- ---- other words
 
 -- the words ask for no picture
 abbrev pub AskForNone : (words : List (List ℕ)) → Type 0
 AskForNone words = (request : Request) → AreTaken words request → ⊥
 
--- The usage line is due where the words ask for no picture, and nothing is read.
-pub record UsageIsDue (words : List (List ℕ)) (left left' : Option (List ℕ)) (text : List ℕ) : Type 0 where
-  pub not_taken : AskForNone words
-  pub unread : left' ≡ left
-  pub is_text : text ≡ usage_text
+abbrev pub usage_text : List ℕ
+usage_text = codes "usage: lift_draw day|plan [--width N] [--height N]\n"
 
--- the words ask for this, and its text is due
-pub record IsAsked (words : List (List ℕ)) (left left' : Option (List ℕ)) (status : Status) (text : List ℕ) : Type 0 where
-  pub request : Request
-  pub taken : AreTaken words request
-  pub due : DrawsDue request left left' status text
+abbrev pub UsageIsDue : DueTexts
+UsageIsDue Done text = ⊥
+UsageIsDue Words text = text ≡ usage_text
+UsageIsDue Stopped text = ⊥
+UsageIsDue Refused text = ⊥
+UsageIsDue Input text = ⊥
+UsageIsDue Read text = ⊥
+UsageIsDue Write text = ⊥
+UsageIsDue Memory text = ⊥
 
--- the texts of the program
-abbrev pub DrawDue : (words : List (List ℕ)) → (left left' : Option (List ℕ)) → DueTexts
-DrawDue words left left' Done text = IsAsked words left left' Done text
-DrawDue words left left' Words text = UsageIsDue words left left' text
-DrawDue words left left' Stopped text = ⊥
-DrawDue words left left' Refused text = ⊥
-DrawDue words left left' Input text = IsAsked words left left' Input text
-DrawDue words left left' Read text = ⊥
-DrawDue words left left' Write text = ⊥
-DrawDue words left left' Memory text = ⊥
-
--- the picture is drawn or the input refused, unless the source or the sink fails or memory runs out
-abbrev pub EndsDraws : (old new : Streams) → Status → Type 0
-EndsDraws old new status =
-    (Rose old.read_faults new.read_faults → ⊥) → (Rose old.write_faults new.write_faults → ⊥) → (status ≡ Done) ⊎ (status ≡ Input) ⊎ (status ≡ Memory)
-
--- so by words that ask for a picture
-abbrev pub DrawsByWords : (words : List (List ℕ)) → (old new : Streams) → Status → Type 0
-DrawsByWords words old new status = (request : Request) → AreTaken words request → EndsDraws old new status
-
--- other words are refused, unless the sink fails or memory runs out
-abbrev pub RefusesWords : (words : List (List ℕ)) → (old new : Streams) → Status → Type 0
-RefusesWords words old new status = AskForNone words → (Rose old.write_faults new.write_faults → ⊥) → (status ≡ Words) ⊎ (status ≡ Memory)
+-- The usage line is written, unless the sink fails or memory runs out.
+pub record RefusesWords (old new : Streams) (status : Status) : Type 0 where
+  pub ends : Ends UsageIsDue old new status
+  pub refuses : (Rose old.write_faults new.write_faults → ⊥) → (status ≡ Words) ⊎ (status ≡ Memory)

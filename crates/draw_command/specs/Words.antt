@@ -34,9 +34,14 @@ app subject = with_option (with_option (new_app (word_of subject)) (setting_of W
 abbrev pub number_of : List Row → SizeOption → Option ℕ
 number_of rows option = number_from (setting_of option) (first_of (setting_of option).name rows)
 
-pub record AsksForSize (rows : List Row) (size : Size) : Type 0 where
-  pub width : number_of rows Width ≡ Some size.width
-  pub height : number_of rows Height ≡ Some size.height
+abbrev pub size_of_numbers : (width height : Option ℕ) → Option Size
+size_of_numbers None height = None
+size_of_numbers (Some width) None = None
+size_of_numbers (Some width) (Some height) = Some (record { width = width; height = height })
+
+-- the size that the options ask for: each value is a number word in its range, or there is the default
+abbrev pub size_asked : List Row → Option Size
+size_asked rows = size_of_numbers (number_of rows Width) (number_of rows Height)
 
 -- the second word is that of the subject
 abbrev pub IsSecond : List Text → Subject → Type 0
@@ -48,5 +53,4 @@ pub record AreTaken (words : List Text) (request : Request) : Type 0 where
   -- what `clap` finds in the options behind it
   pub rows : List Row
   pub given : AreGiven (app request.subject) words rows
-  -- each value is a number word in its range; the size has the values, or the defaults
-  pub size : AsksForSize rows request.size
+  pub size : size_asked rows ≡ Some request.size

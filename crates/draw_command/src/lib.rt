@@ -5,14 +5,15 @@
 //! **`run`.** Status 0: the whole input was read, of a day (an opening, rows and their log) or of a plan (a
 //! case and an answer), as the words ask, and its picture in the size that they ask for was written. Status
 //! 2: the words ask for no picture, nothing was read, and the usage line was written. Status 5: the input is
-//! no such text, and the line written tells its first bad line with its one code, or that it is too long.
-//! Where nothing fails, the status is one of these, or 8.
+//! no such text, and the line written tells its first bad line with its one code, or that it is too long; the
+//! end of that line shows in the bytes that were taken. An input that tells what is drawn is drawn, and any
+//! other is refused, unless the source or the sink fails or memory runs out.
 //!
 //! `specs/Words.antt` says which words ask for what (`AreTaken`), by a table of two options and `clap`'s own
-//! statement; `specs/Outcome.antt` has the definitions: `ends` says for each status what was read and written
-//! (`DrawDue`), `draws` and `refuses` that nothing else comes (`DrawsByWords`, `RefusesWords`). What is read
-//! is defined in `picture_reader` (`IsDayRead`, `IsPlanRead`), the picture in `lift_picture`
-//! (`picture_text`).
+//! statement. In `specs/Outcome.antt` are the definitions: `RunsDraw` is the frame of all commands that read a
+//! whole text (`Runs` of `command_ends`), with what a text tells (`scene_form`) and its picture (`IsDrawn`).
+//! What a text tells is defined in `picture_reader` (`day_telling`, `plan_telling`), the picture in
+//! `lift_picture` (`picture_text`).
 #![tactic(auto)]
 
 mod running;

@@ -1,27 +1,27 @@
 //! Draws the day or the plan of an input.
-ghost use Rattle.std.specs.Prelude.{◌≡◌, ◌≤◌, IfErr, IfOk, None, OnOk, IsErrOf, length, map, option_map};
+ghost use Rattle.std.specs.Prelude.{◌≡◌, ◌≤◌, IfErr, IfOk, None, OnOk, IsErrOf, length, map};
 ghost use Rattle.std.specs.Prelude.{string_bytes};
 ghost use Rattle.std.specs.Io.KnownBytes.{IsAtEnd};
 ghost use Rattle.byte_streams.specs.Streams.{Rose};
-ghost use Rattle.command_ends.specs.Ends.{Ends, streams};
+ghost use Rattle.command_ends.specs.Ends.{streams};
 ghost use Rattle.lift_text.specs.LineReader.{failure, text};
-ghost use Rattle.lift_text.specs.Reading.{whole_text};
-ghost use Rattle.draw_command.specs.Outcome.{AskForNone, DrawDue, DrawsByWords, DrawsDue, EndsDraws};
-ghost use Rattle.draw_command.specs.Outcome.{IsSceneAnswered, RefusesWords};
+ghost use Rattle.lift_text.specs.Shows.{FaultShows};
+ghost use Rattle.picture_reader.specs.Tellings.{IsAnsweredBy};
+ghost use Rattle.draw_command.specs.Outcome.{AskForNone, DrawsByWords, RefusesWords, RunsDraw, telling_of};
 
 use crate::words::{Request, Subject, read_words};
 use byte_streams::{Sink, Source};
-use command_ends::{Status, put, put_fault};
+use command_ends::{Answer, Command, InputFault, Status, WholeText, put, run_command};
 use lift_picture::{Scene, draw_scene};
 use lift_text::{LineReader, TextFault};
 use option_words::WordsFault;
 use picture_reader::{read_day_scene, read_plan_scene};
-use std::alloc::Global;
+use std::alloc::{AllocError, Global};
 
 /// What is written where the words are not taken.
 const USAGE: &[u8] = b"usage: lift_draw day|plan [--width N] [--height N]\n";
 
-/// What the text tells of this subject.
+/// Reads what a text tells of this subject.
 fn read_scene<S: Source>(
     alloc: Global,
     subject: Subject,
@@ -29,12 +29,13 @@ fn read_scene<S: Source>(
 ) -> Result<Scene, TextFault>
     requires { failure lines.old ≡ None }
     ensures same_source { lines.new.source.ghost_name ≡ lines.old.source.ghost_name }
-    ensures scene { IsSceneAnswered subject (text S.left lines.old) result }
+    ensures scene { IsAnsweredBy (telling_of subject) (text S.left lines.old) result }
     ensures few { IfOk result (λ scene. length scene.cars.items ≤ 16) }
     ensures ended { OnOk result (IsAtEnd (S.left lines.new.source.now)) }
+    ensures shows { IfErr result (λ fault.
+        FaultShows (text S.left lines.old) fault (S.left lines.new.source.now)) }
     ensures read { IsErrOf result TextFault.Read
         → Rose (S.faults lines.old.source.now) (S.faults lines.new.source.now) }
-    ensures counted { S.faults lines.old.source.now ≤ S.faults lines.new.source.now }
 {
     match subject {
         Subject::Day => read_day_scene(alloc, lines),
@@ -42,44 +43,54 @@ fn read_scene<S: Source>(
     }
 }
 
-/// What is drawn of the whole input.
-fn read_input<S: Source>(
-    alloc: Global,
-    subject: Subject,
-    source: &mut S,
-) -> Result<Scene, TextFault>
-    ensures scene { IsSceneAnswered subject (option_map whole_text (S.left source.old)) result }
-    ensures few { IfOk result (λ scene. length scene.cars.items ≤ 16) }
-    ensures ended { OnOk result (IsAtEnd (S.left source.new)) }
-    ensures read { IsErrOf result TextFault.Read → Rose (S.faults source.old) (S.faults source.new) }
-{
-    let mut lines = match LineReader::new(alloc, source) {
-        Ok(lines) => lines,
-        Err(_) => return Err(TextFault::NoMemory),
-    };
-    let read = read_scene(alloc, subject, &mut lines);
-    lines.into_source();
-    read
+/// Draws what is asked for.
+#[derive(Clone, Copy)]
+struct Drawing {
+    request: Request,
+}
+
+impl WholeText for Drawing {
+    ghost use Rattle.draw_command.specs.Outcome.{scene_form};
+
+    type Value = Scene;
+
+    ghost form = { λ it. scene_form it.request.subject };
+
+    fn read<S: Source>(
+        &self,
+        alloc: Global,
+        lines: &mut LineReader<S>,
+    ) -> Result<Scene, InputFault> {
+        match read_scene(alloc, self.request.subject, lines) {
+            Ok(scene) => Ok(scene),
+            Err(fault) => Err(InputFault::Text(fault)),
+        }
+    }
+}
+
+impl Command for Drawing {
+    ghost use Rattle.draw_command.specs.Outcome.{IsDrawn};
+
+    ghost told = { λ it. IsDrawn it.request.size };
+
+    fn answer(&self, alloc: Global, scene: &Scene) -> Result<Answer, AllocError> {
+        let text = draw_scene(alloc, self.request.size, scene)?;
+        Ok(Answer {
+            status: Status::Done,
+            text,
+        })
+    }
 }
 
 /// Reads what is asked for, and writes its picture; or what is wrong with the input.
 fn draw<S: Source, K: Sink>(alloc: Global, request: Request, source: &mut S, sink: &mut K) -> Status
-    ensures ends { Ends (DrawsDue request (S.left source.old) (S.left source.new))
-        (streams (S.left source.old) (K.taken sink.old) (S.faults source.old) (K.faults sink.old))
-        (streams (S.left source.new) (K.taken sink.new) (S.faults source.new)
-        (K.faults sink.new)) result }
-    ensures draws { EndsDraws
+    ensures { RunsDraw request
         (streams (S.left source.old) (K.taken sink.old) (S.faults source.old) (K.faults sink.old))
         (streams (S.left source.new) (K.taken sink.new) (S.faults source.new)
         (K.faults sink.new)) result }
 {
-    match read_input(alloc, request.subject, source) {
-        Ok(scene) => match draw_scene(alloc, request.size, &scene) {
-            Ok(picture) => put(sink, picture.as_slice(), Status::Done),
-            Err(_) => Status::Memory,
-        },
-        Err(fault) => put_fault(alloc, fault, sink),
-    }
+    let command = Drawing { request };
+    run_command(alloc, &command, source, sink)
 }
 
 /// Runs the program: reads what the words of the command line ask for, the program's name first, and writes
@@ -92,19 +103,20 @@ pub fn run<S: Source, K: Sink>(
     source: &mut S,
     sink: &mut K,
 ) -> Status
-    ensures ends { Ends (DrawDue (map string_bytes words.now) (S.left source.old) (S.left source.new))
-        (streams (S.left source.old) (K.taken sink.old) (S.faults source.old) (K.faults sink.old))
-        (streams (S.left source.new) (K.taken sink.new) (S.faults source.new)
-        (K.faults sink.new)) result }
+    // What the words ask for is drawn, and whatever else is read is refused, unless the source or the sink fails
+    // or memory runs out.
     ensures draws { DrawsByWords (map string_bytes words.now)
         (streams (S.left source.old) (K.taken sink.old) (S.faults source.old) (K.faults sink.old))
         (streams (S.left source.new) (K.taken sink.new) (S.faults source.new)
         (K.faults sink.new)) result }
-    ensures refuses { RefusesWords (map string_bytes words.now)
+
+    // Words that ask for no picture get the usage line, unless the sink fails or memory runs out.
+    ensures refuses_words { AskForNone (map string_bytes words.now) → RefusesWords
         (streams (S.left source.old) (K.taken sink.old) (S.faults source.old) (K.faults sink.old))
         (streams (S.left source.new) (K.taken sink.new) (S.faults source.new)
         (K.faults sink.new)) result }
-    // Words that ask for no picture leave the source as it was, whatever the status.
+
+    // They leave the source as it was, whatever the status.
     ensures unread { AskForNone (map string_bytes words.now) → source.new ≡ source.old }
 {
     match read_words(alloc, words) {

@@ -2,9 +2,9 @@
 ghost use Rattle.std.specs.Prelude.{◌≡◌, ◌≤◌, None, IfErr, IfOk, IfSome, List, length, map, string_bytes};
 ghost use Rattle.clap.specs.Words.{Row, app_of, found_of, rows_of};
 ghost use Rattle.option_words.specs.Given.{AreGiven};
-ghost use Rattle.option_words.specs.Options.{ExactlyWhere, Shows};
-ghost use Rattle.draw_command.specs.Words.{AreTaken, AsksForSize, IsSecond, app, number_of, setting_of};
-ghost use Rattle.draw_command.specs.Words.{subject_named, word_of};
+ghost use Rattle.option_words.specs.Options.{Shows};
+ghost use Rattle.draw_command.specs.Words.{AreTaken, IsSecond, app, number_of, setting_of};
+ghost use Rattle.draw_command.specs.Words.{size_asked as size_asked_lem, subject_named, word_of};
 ghost use Rattle.draw_command.specs.declared.words.Request.{Request};
 ghost use Rattle.draw_command.specs.declared.words.Subject.{Subject};
 
@@ -122,7 +122,7 @@ fn parse<'a>(
 
 /// The size that is asked for.
 fn size_asked(matches: &ArgMatches<'_>) -> Option<Size>
-    ensures { ExactlyWhere (AsksForSize (rows_of (found_of matches.now))) result }
+    ensures { result ≡ size_asked_lem (rows_of (found_of matches.now)) }
 {
     let width = SizeOption::Width.number(matches)?;
     let height = SizeOption::Height.number(matches)?;
