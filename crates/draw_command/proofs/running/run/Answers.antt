@@ -24,14 +24,14 @@ returns-in-Err-NotTaken-clause-refuses_words g c =
     let new = streams left (g.K.Sink.taken c.put.new.sink) faults (g.K.Sink.faults c.put.new.sink) in
     λ none. refuses_words old new c.put.result c.put.ensures.put
 
-pub returns-clause-draws : goal.returns-clause-draws
-returns-clause-draws g c =
+pub returns-in-Err-NoMemory-clause-draws : goal.returns-in-Err-NoMemory-clause-draws
+returns-in-Err-NoMemory-clause-draws g c =
     let faults = g.S.Source.faults c.args.source.now in
     let now = streams (g.S.Source.left c.args.source.now) (g.K.Sink.taken c.args.sink.now) faults (g.K.Sink.faults c.args.sink.now) in
     draws_nothing (map string_bytes c.args.words.now) now now refl
 
-pub returns-clause-refuses_words : goal.returns-clause-refuses_words
-returns-clause-refuses_words g c =
+pub returns-in-Err-NoMemory-clause-refuses_words : goal.returns-in-Err-NoMemory-clause-refuses_words
+returns-in-Err-NoMemory-clause-refuses_words g c =
     let faults = g.S.Source.faults c.args.source.now in
     let now = streams (g.S.Source.left c.args.source.now) (g.K.Sink.taken c.args.sink.now) faults (g.K.Sink.faults c.args.sink.now) in
     λ none. refuses_nothing now now refl
