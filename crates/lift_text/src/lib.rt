@@ -32,4 +32,5 @@ pub use judge::LINE_LIMIT;
 pub use numbers::{NumberFault, number_in};
 pub use page::{LINE_COUNT_BOUND, TEXT_LIMIT};
 pub use reader::LineReader;
+pub use window::MOST_AHEAD;
 pub use writers::{put_line, put_number, put_word, put_words};

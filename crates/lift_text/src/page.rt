@@ -7,7 +7,7 @@ ghost use Rattle.lift_text.specs.Page.{IfBad, step_of};
 use crate::codes::TextCode;
 use crate::faults::{RawLine, TextFault};
 use crate::judge::{Flaw, LINE_LIMIT, judge};
-use crate::window::{Front, LONGEST, Skipped, Window};
+use crate::window::{Front, LONGEST, MOST_AHEAD, Skipped, Window};
 use crate::words::Span;
 use byte_streams::{Source, SourceFault};
 use std::alloc::{AllocError, Global};
@@ -97,6 +97,14 @@ impl Page {
             spans,
             failure: None,
         })
+    }
+
+    /// How many bytes were taken from the source beyond the current line.
+    pub(crate) fn ahead(&self) -> usize
+        ensures value { result ≡ length self.now.unread }
+        ensures few { length self.now.unread ≤ MOST_AHEAD }
+    {
+        self.window.unread().len() - self.size
     }
 
     /// Passes over the current line.

@@ -13,6 +13,7 @@ ghost use Rattle.lift_text.specs.Shows.{LineShows, RawShows};
 use crate::faults::{RawLine, TextFault};
 use crate::numbers::{NumberFault, number_in};
 use crate::page::{Page, TEXT_LIMIT};
+use crate::window::MOST_AHEAD;
 use byte_streams::Source;
 use std::alloc::{AllocError, Global};
 use std::marker::Model;
@@ -213,12 +214,16 @@ impl<'a, S: Source> LineReader<'a, S> {
         self.page.raw()
     }
 
-    /// Gives the source back, as the reader left it.
+    /// Gives the source back, as the reader left it: few bytes were taken from it beyond the line that was read
+    /// last.
     pub fn into_source(self) -> &'a mut S
         ensures same_source { result.ghost_name ≡ self.entry.source.ghost_name }
         ensures source { result.now ≡ self.entry.source.now }
+        ensures few { length (unread self.entry) ≤ MOST_AHEAD }
     {
         let LineReader { source, page } = self;
+        // For the proof: the page says how few they are.
+        let _ahead = page.ahead();
         drop(page);
         source
     }

@@ -24,6 +24,9 @@ const LARGEST_READ: usize = 65_536;
 /// front of the window once at most.
 const SIZE: usize = LONGEST + LARGEST_READ;
 
+/// The most bytes that a reader has taken from its source beyond the line that it has read last.
+pub const MOST_AHEAD: usize = SIZE;
+
 /// What came of asking a source for more: bytes, the end of the input, or a byte past the most that
 /// may be taken.
 #[derive(Clone, Copy)]
@@ -94,6 +97,7 @@ impl Window {
 
     pub(crate) fn unread(&self) -> &[u8]
         ensures value { result.now ≡ self.now.unread }
+        ensures few { length self.now.unread ≤ MOST_AHEAD }
     {
         &self.bytes[self.start..self.end]
     }
