@@ -1,6 +1,6 @@
 -- How `day` and `report` end, from what became of the text and what was put.
 use Rattle.std.proofs.Common.{rules, ◌≡◌, ℕ, zero, suc, ◌≤◌, List, refl, sym, subst, ap, ◌∙◌, inl, inr, arith, Option, None, Result, Ok, Err}
-use Rattle.std.specs.Prelude.{IsSomeAnd, option_map, take}
+use Rattle.std.specs.Prelude.{IsSomeAnd, length, option_map, take}
 use Rattle.std.specs.Io.KnownBytes.{append_known}
 use Rattle.byte_streams.specs.Streams.{Rose}
 use Rattle.lift_text.specs.Reading.{whole_text}
@@ -25,7 +25,7 @@ use Rattle.command_ends.specs.declared.status.Status.TheVariants.{Done, Stopped,
 use Rattle.command_ends.specs.Ends.{Streams, Puts, PutsFault, PutsRefusal, IsRefusalLine}
 use Rattle.command_ends.proofs.EndLemmas.{ends_fault, ends_put, fault_memory, put_whole}
 use Rattle.lift_text.specs.Shows.{FaultShows}
-use Rattle.day_commands.specs.DayOutcome.{RanBy, ToldBy, DayDone, DayEnds, PutsRowsFault, ReportDue, ReportsDay, RunsDay, SolvedBy, status_of_unsolved}
+use Rattle.day_commands.specs.DayOutcome.{RanBy, ToldBy, DayDone, DayEnds, PutsRowsFault, ReportDue, ReportsDay, RunsDay, SolvedBy, most_ahead, status_of_unsolved}
 use Rattle.day_commands.proofs.EnoughRows.{stopped-day}
 use Rattle.day_commands.proofs.KeptRows.{ran-within}
 
@@ -39,7 +39,8 @@ BeginsDay old = IsSomeAnd (option_map whole_text old.left) IsDayText
 
 -- a day was run, with what is right at each row
 abbrev RanRight : DayOptions → (left left' taken taken' : Option (List ℕ)) → Result Ended RunFault → Type 0
-RanRight options left left' taken taken' result = (ahead : List ℕ) × DayRan (SolvedBy options) (option_map whole_text left) ahead left' taken taken' result
+RanRight options left left' taken taken' result =
+    (ahead : List ℕ) × (length ahead ≤ most_ahead) × DayRan (SolvedBy options) (option_map whole_text left) ahead left' taken taken' result
 
 -- ---- `day`
 
@@ -58,7 +59,7 @@ day-done options old new ended result is ran =
       ran = ran-within options old.left new.left old.taken new.taken (Ok ended) ran;
       status_is = refl;
       stopped =
-          λ is. stopped-day options (option_map whole_text old.left) ran.0 new.left old.taken new.taken ended ran.1 is;
+          λ is. stopped-day options (option_map whole_text old.left) ran.0 new.left old.taken new.taken ended ran.2 is;
     }))
 
 day-short : (options : DayOptions) (old new : Streams) (result : Status) → result ≡ Memory → DayEnds options old new Memory → RunsDay options old new result

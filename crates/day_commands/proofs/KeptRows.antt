@@ -31,7 +31,7 @@ use Rattle.day_simulator.specs.declared.day_runs.Ended.{Ended}
 use Rattle.day_simulator.specs.declared.row_runs.RunFault.{RunFault}
 use Rattle.lift_words.specs.declared.request.DayOptions.{DayOptions}
 use Rattle.day_commands.specs.DayRows.{AreRowsKept}
-use Rattle.day_commands.specs.DayOutcome.{RanWithin, SolvedBy}
+use Rattle.day_commands.specs.DayOutcome.{RanWithin, SolvedBy, most_ahead}
 
 -- ---- how many rows there are
 
@@ -158,7 +158,7 @@ kept-day options (Some input) ahead left' taken taken' result ran =
     (λ from. ReadsDay result from ran.ran.passed ran.ran.behind left') ran.ran.day ran.ran.text ran.read ran.ran.read ran.ran.done
 
 abbrev pub ran-within : (options : DayOptions) (left left' taken taken' : Option (List ℕ)) (result : Result Ended RunFault)
-    → (ahead : List ℕ) × DayRan (SolvedBy options) (option_map whole_text left) ahead left' taken taken' result
+    → (ahead : List ℕ) × (length ahead ≤ most_ahead) × DayRan (SolvedBy options) (option_map whole_text left) ahead left' taken taken' result
     → RanWithin options left left' taken taken' result
 ran-within options left left' taken taken' result told =
-    record { ahead = told.0; ran = told.1; kept = kept-day options left told.0 left' taken taken' result told.1 }
+    record { ahead = told.0; few = told.1; ran = told.2; kept = kept-day options left told.0 left' taken taken' result told.2 }

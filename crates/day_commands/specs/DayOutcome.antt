@@ -68,10 +68,15 @@ pub record IsNoDayLine (left left' : Option (List ℕ)) (text : List ℕ) : Type
   pub no_day : IsDayOpeningRefused (option_map whole_text left) fault
   pub shows : FaultShows (option_map whole_text left) fault left'
 
+-- The most bytes that are taken from a source beyond the line that was read last: the front of a line, and those of one read.
+abbrev pub most_ahead : ℕ
+most_ahead = 69634
+
 -- A day was run with the limits of the words, and where the source tells what it has left, no accepted call is lost after
--- any of the rows that were done. These bytes were read ahead (`HoldsDayAhead`).
+-- any of the rows that were done. These few bytes were read ahead (`HoldsDayAhead`).
 pub record RanWithin (options : DayOptions) (left left' taken taken' : Option (List ℕ)) (result : Result Ended RunFault) : Type 0 where
   pub ahead : List ℕ
+  pub few : length ahead ≤ most_ahead
   pub ran : DayRan (SolvedBy options) (option_map whole_text left) ahead left' taken taken' result
   pub kept : IfSome left (λ input. AreRowsKept (SolvedBy options) (opening_day ran.opening) (rows_of ran.ran.passed) ran.ran.day ran.ran.text)
 

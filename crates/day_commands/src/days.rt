@@ -1,6 +1,6 @@
 //! The commands `day` and `report`.
 
-ghost use Rattle.std.specs.Prelude.{◌≡◌, ◌<◌, ◌≤◌, ◌^◌, ℕ, List, None, IfOk, IsSomeAnd, option_map};
+ghost use Rattle.std.specs.Prelude.{◌≡◌, ◌<◌, ◌≤◌, ◌^◌, ℕ, List, None, IfOk, IsSomeAnd, length, option_map};
 ghost use Rattle.byte_streams.specs.Streams.{Rose};
 ghost use Rattle.lift_text.specs.Reading.{whole_text};
 ghost use Rattle.search_model.specs.Reports.{report_of as report_of_lem};
@@ -10,7 +10,7 @@ ghost use Rattle.day_simulator.specs.TextRuns.{IsUnwritten};
 ghost use Rattle.lift_words.specs.Taken.{AreDayOptions};
 ghost use Rattle.command_ends.specs.Ends.{streams};
 ghost use Rattle.day_commands.specs.DayOutcome.{PutsRowsFault, ReportsDay, RunsDay, SolvedBy};
-ghost use Rattle.day_commands.specs.DayOutcome.{status_of_unsolved as status_of_unsolved_lem};
+ghost use Rattle.day_commands.specs.DayOutcome.{most_ahead, status_of_unsolved as status_of_unsolved_lem};
 
 use byte_streams::{Gate, Sink, SinkFault, Source};
 use cert_claims::CountingCrew;
@@ -48,7 +48,7 @@ fn run_input<S: Source, K: Sink, C: SearchCrew + CountingCrew, G: Gate>(
     sink: &mut K,
 ) -> Result<Ended, DayFault>
     requires { AreDayOptions options }
-    ensures answered { (ahead : List ℕ) × DayAnswered (SolvedBy options)
+    ensures answered { (ahead : List ℕ) × (length ahead ≤ most_ahead) × DayAnswered (SolvedBy options)
         (option_map whole_text (S.left source.old)) ahead (S.left source.new) (K.taken sink.old)
         (K.taken sink.new) result }
     ensures ends { IsSomeAnd (option_map whole_text (S.left source.old)) IsDayText → EndsUnlessFailed result }

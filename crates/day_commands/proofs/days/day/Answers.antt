@@ -20,7 +20,7 @@ returns-in-Err-Opening g c =
     (g.K.Sink.faults c.put_fault.new.sink) in
     let told = rw c.in-Err-Opening.field-0-is at c.in-Err-Opening.ensures in
     day-unopened c.args.options old new c.in-Err-Opening.fault c.put_fault.result (taken c.run_input.new.sink)
-    (g.K.Sink.faults c.run_input.new.sink) told.answered.1.0 told.sink_counted told.answered.1.1 told.answered.1.2 told.answered.1.3 told.ends told.read
+    (g.K.Sink.faults c.run_input.new.sink) told.answered.2.0 told.sink_counted told.answered.2.1 told.answered.2.2 told.answered.2.3 told.ends told.read
     c.put_fault.ensures
 
 pub returns-in-Err-Rows : goal.returns-in-Err-Rows

@@ -28,7 +28,7 @@ returns-in-Err-Opening g c =
     let new = streams (left c.run_input.new.source) (taken c.put_fault.new.sink) (g.S.Source.faults c.run_input.new.source)
     (g.K.Sink.faults c.put_fault.new.sink) in
     let told = rw c.in-Err-Opening.field-0-is at c.in-Err-Opening.ensures in
-    report-unopened c.args.options old new c.in-Err-Opening.fault c.put_fault.result told.answered.1.1 told.answered.1.2 told.ends told.read c.put_fault.ensures
+    report-unopened c.args.options old new c.in-Err-Opening.fault c.put_fault.result told.answered.2.1 told.answered.2.2 told.ends told.read c.put_fault.ensures
 
 pub returns : goal.returns
 returns g c =

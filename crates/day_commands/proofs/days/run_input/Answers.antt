@@ -1,4 +1,4 @@
-use Rattle.std.proofs.Common.{ℕ, [], Option, rules, subst, ◌∙◌}
+use Rattle.std.proofs.Common.{ℕ, [], arith, Option, rules, subst, ◌∙◌}
 use Rattle.search_model.specs.declared.limits.Limits.{Limits}
 use Rattle.lift_text.specs.LineReader.{text, unread}
 use Rattle.day_planner.specs.SolvedRows.{IsSolvedRow}
@@ -9,7 +9,7 @@ pub new-planner-requires : goal.new-planner-requires
 new-planner-requires g c = c.most_claims.ensures.within c.requires
 
 pub returns-in-Err-clause-answered : goal.returns-in-Err-clause-answered
-returns-in-Err-clause-answered g c = ([], search rules)
+returns-in-Err-clause-answered g c = ([], omega arith, search rules)
 
 pub returns-clause-answered : goal.returns-clause-answered
 returns-clause-answered g c =
@@ -27,4 +27,4 @@ returns-clause-answered g c =
     (subst (λ (limits : Limits). DayAnswered (IsSolvedRow limits.rounds limits.most_tours claims) read ahead left old new ended)
     c.new-planner.ensures.limits run.ensures.answered) in
     let told = rw c.in-Ok.ensures.text at ran in
-    (ahead, search (rules, told))
+    (ahead, c.into_source.ensures.few, search (rules, told))
