@@ -1,18 +1,19 @@
 -- What the words are taken as.
 use mathlib.Core.HLevel.{is_prop→PathP}
-use Rattle.std.proofs.Common.{◌≡◌, ◌≤◌, ◌^◌, ◌∙◌, ℕ, Bool, true, false, IsTrue, cond, List, drop, codes, Option, Some, None, slice_get, IfSome, subst, sym, ap}
+use Rattle.std.proofs.Common.{◌≡◌, ◌≤◌, ◌^◌, ◌∙◌, ℕ, Bool, true, false, IsTrue, cond, List, [], ◌∷◌, drop, Option, Some, None, slice_get, IfSome, subst, sym, ap}
 use Rattle.std.proofs.Common.{inl, inr, refl}
 use Rattle.std.specs.Coded.{le_prop}
-use Rattle.std.specs.Prelude.{◌↔◌}
+use Rattle.std.specs.Prelude.{◌↔◌, ◌⊎◌}
 use Rattle.std.specs.Str.{bytes_eq}
 use Rattle.std.proofs.lemmas.Slice.Eq.{bytes_eq-Decides}
 use Rattle.clap.specs.Walk.{Row, Text}
 use Rattle.clap.specs.Simple.{matches_of}
 use Rattle.clap.specs.Takes.{takes}
-use Rattle.lift_words.specs.Table.{app, command_of, word_of}
+use Rattle.lift_words.specs.Table.{all_commands, app, command_of, word_of}
+use Rattle.std.specs.List.{find}
 use Rattle.option_words.specs.Given.{AreGiven}
 use Rattle.lift_words.specs.Taken.{AreTaken, Asks, AsksBy, AsksForBrief, AsksForCerts, AsksForDay, AsksForProgress, AsksForRoot, AsksForSearch, AsksForSizes}
-use Rattle.lift_words.specs.Taken.{AsksToCheck, AsksToRun, AsksToSolve, IsSecond, command_asked}
+use Rattle.lift_words.specs.Taken.{AsksToCheck, AsksToMake, AsksToRun, AsksToSolve, IsSecond, command_asked}
 use Rattle.lift_words.specs.declared.table.CommandWord.{CommandWord}
 use Rattle.lift_words.specs.declared.table.CommandWord.TheVariants as command
 use Rattle.lift_words.specs.declared.request.Request.{Request}
@@ -32,84 +33,21 @@ use Rattle.work_fan.specs.declared.runtime.Workers.{Workers}
 only : {X : Type 0} {a b : X} → Some a ≡ Some b → a ≡ b
 only e = cc
 
--- the word that names a command
-pub named_word : (word : Text) (named : CommandWord) → command_of word ≡ Some named → word ≡ word_of named
-named_word word named is = by_solve (bytes_eq word (codes "solve")) refl is
+-- the word that names a command, among these
+named_among : (commands : List CommandWord) (word : Text) (named : CommandWord) → find (λ command. bytes_eq word (word_of command)) commands ≡ Some named
+    → word ≡ word_of named
+named_among [] word named is = absurd cc
+named_among (command ∷ commands) word named is = by_first (named_among commands word named) (bytes_eq word (word_of command)) refl is
   where
-    names : (command : CommandWord) → bytes_eq word (word_of command) ≡ true → Some command ≡ Some named → word ≡ word_of named
-    names command e same = (bytes_eq-Decides word (word_of command)).0 e ∙ ap word_of (only same)
-
-    from_audit : Option CommandWord
-    from_audit = cond (bytes_eq word (codes "audit")) (Some command.Audit) None
-
-    from_root : Option CommandWord
-    from_root = cond (bytes_eq word (codes "root")) (Some command.Root) from_audit
-
-    from_banks : Option CommandWord
-    from_banks = cond (bytes_eq word (codes "banks")) (Some command.Banks) from_root
-
-    from_whatif : Option CommandWord
-    from_whatif = cond (bytes_eq word (codes "whatif")) (Some command.WhatIf) from_banks
-
-    from_table : Option CommandWord
-    from_table = cond (bytes_eq word (codes "table")) (Some command.Table) from_whatif
-
-    from_make : Option CommandWord
-    from_make = cond (bytes_eq word (codes "make")) (Some command.Make) from_table
-
-    from_report : Option CommandWord
-    from_report = cond (bytes_eq word (codes "report")) (Some command.Report) from_make
-
-    from_day : Option CommandWord
-    from_day = cond (bytes_eq word (codes "day")) (Some command.Day) from_report
-
-    from_check : Option CommandWord
-    from_check = cond (bytes_eq word (codes "check")) (Some command.Check) from_day
-
-    by_audit : (b : Bool) → bytes_eq word (codes "audit") ≡ b → cond b (Some command.Audit) None ≡ Some named → word ≡ word_of named
-    by_audit true e same = names command.Audit e same
-    by_audit false e same = absurd cc
-
-    by_root : (b : Bool) → bytes_eq word (codes "root") ≡ b → cond b (Some command.Root) from_audit ≡ Some named → word ≡ word_of named
-    by_root true e same = names command.Root e same
-    by_root false e same = by_audit (bytes_eq word (codes "audit")) refl same
-
-    by_banks : (b : Bool) → bytes_eq word (codes "banks") ≡ b → cond b (Some command.Banks) from_root ≡ Some named → word ≡ word_of named
-    by_banks true e same = names command.Banks e same
-    by_banks false e same = by_root (bytes_eq word (codes "root")) refl same
-
-    by_whatif : (b : Bool) → bytes_eq word (codes "whatif") ≡ b → cond b (Some command.WhatIf) from_banks ≡ Some named → word ≡ word_of named
-    by_whatif true e same = names command.WhatIf e same
-    by_whatif false e same = by_banks (bytes_eq word (codes "banks")) refl same
-
-    by_table : (b : Bool) → bytes_eq word (codes "table") ≡ b → cond b (Some command.Table) from_whatif ≡ Some named → word ≡ word_of named
-    by_table true e same = names command.Table e same
-    by_table false e same = by_whatif (bytes_eq word (codes "whatif")) refl same
-
-    by_make : (b : Bool) → bytes_eq word (codes "make") ≡ b → cond b (Some command.Make) from_table ≡ Some named → word ≡ word_of named
-    by_make true e same = names command.Make e same
-    by_make false e same = by_table (bytes_eq word (codes "table")) refl same
-
-    by_report : (b : Bool) → bytes_eq word (codes "report") ≡ b → cond b (Some command.Report) from_make ≡ Some named → word ≡ word_of named
-    by_report true e same = names command.Report e same
-    by_report false e same = by_make (bytes_eq word (codes "make")) refl same
-
-    by_day : (b : Bool) → bytes_eq word (codes "day") ≡ b → cond b (Some command.Day) from_report ≡ Some named → word ≡ word_of named
-    by_day true e same = names command.Day e same
-    by_day false e same = by_report (bytes_eq word (codes "report")) refl same
-
-    by_check : (b : Bool) → bytes_eq word (codes "check") ≡ b → cond b (Some command.Check) from_day ≡ Some named → word ≡ word_of named
-    by_check true e same = names command.Check e same
-    by_check false e same = by_day (bytes_eq word (codes "day")) refl same
-
-    by_solve : (b : Bool) → bytes_eq word (codes "solve") ≡ b → cond b (Some command.Solve) from_check ≡ Some named → word ≡ word_of named
-    by_solve true e same = names command.Solve e same
-    by_solve false e same = by_check (bytes_eq word (codes "check")) refl same
+    by_first : (find (λ other. bytes_eq word (word_of other)) commands ≡ Some named → word ≡ word_of named) → (b : Bool) → bytes_eq word (word_of command) ≡ b
+        → cond b (Some command) (find (λ other. bytes_eq word (word_of other)) commands) ≡ Some named → word ≡ word_of named
+    by_first rest true e same = (bytes_eq-Decides word (word_of command)).0 e ∙ ap word_of (only same)
+    by_first rest false e same = rest same
 
 pub known : (words : List Text) (word : Text) (found : Option CommandWord) → slice_get words 1 ≡ Some word → found ≡ command_of word
     → IfSome found (IsSecond words)
 known words word None second is = tt
-known words word (Some named) second is = second ∙ ap Some (named_word word named (sym is))
+known words word (Some named) second is = second ∙ ap Some (named_among all_commands word named (sym is))
 
 word_names : (named : CommandWord) → command_of (word_of named) ≡ Some named
 word_names command.Solve = refl
@@ -196,132 +134,54 @@ asks_to_run_one rows a b x y =
     let limits = same_limits a.limits b.limits (only (sym x.rounds ∙ y.rounds)) (only (sym x.moves ∙ y.moves)) in
     λ i. record { sizes = sizes i; limits = limits i }
 
--- rows ask for one request of a command
-asks_of_one : (rows : List Row) (a b : Request) → command_asked a ≡ command_asked b → Asks rows a → Asks rows b → a ≡ b
-asks_of_one rows (Solve a) (Solve b) same x y = ap Solve (asks_to_solve_one rows a b x y)
-asks_of_one rows (Solve a) (Check b) same x y = absurd cc
-asks_of_one rows (Solve a) (Day b) same x y = absurd cc
-asks_of_one rows (Solve a) (Report b) same x y = absurd cc
-asks_of_one rows (Solve a) (Make b) same x y = absurd cc
-asks_of_one rows (Solve a) (Run b) same x y = absurd cc
-asks_of_one rows (Solve a) Table same x y = absurd cc
-asks_of_one rows (Solve a) (WhatIf b) same x y = absurd cc
-asks_of_one rows (Solve a) (Banks b) same x y = absurd cc
-asks_of_one rows (Solve a) (Root b) same x y = absurd cc
-asks_of_one rows (Solve a) (Audit b) same x y = absurd cc
-asks_of_one rows (Check a) (Solve b) same x y = absurd cc
-asks_of_one rows (Check a) (Check b) same x y = ap Check (asks_to_check_one rows a b x y)
-asks_of_one rows (Check a) (Day b) same x y = absurd cc
-asks_of_one rows (Check a) (Report b) same x y = absurd cc
-asks_of_one rows (Check a) (Make b) same x y = absurd cc
-asks_of_one rows (Check a) (Run b) same x y = absurd cc
-asks_of_one rows (Check a) Table same x y = absurd cc
-asks_of_one rows (Check a) (WhatIf b) same x y = absurd cc
-asks_of_one rows (Check a) (Banks b) same x y = absurd cc
-asks_of_one rows (Check a) (Root b) same x y = absurd cc
-asks_of_one rows (Check a) (Audit b) same x y = absurd cc
-asks_of_one rows (Day a) (Solve b) same x y = absurd cc
-asks_of_one rows (Day a) (Check b) same x y = absurd cc
-asks_of_one rows (Day a) (Day b) same x y = ap Day (asks_for_day_one rows a b x y)
-asks_of_one rows (Day a) (Report b) same x y = absurd cc
-asks_of_one rows (Day a) (Make b) same x y = absurd cc
-asks_of_one rows (Day a) (Run b) same x y = absurd cc
-asks_of_one rows (Day a) Table same x y = absurd cc
-asks_of_one rows (Day a) (WhatIf b) same x y = absurd cc
-asks_of_one rows (Day a) (Banks b) same x y = absurd cc
-asks_of_one rows (Day a) (Root b) same x y = absurd cc
-asks_of_one rows (Day a) (Audit b) same x y = absurd cc
-asks_of_one rows (Report a) (Solve b) same x y = absurd cc
-asks_of_one rows (Report a) (Check b) same x y = absurd cc
-asks_of_one rows (Report a) (Day b) same x y = absurd cc
-asks_of_one rows (Report a) (Report b) same x y = ap Report (asks_for_search_one rows a b x y)
-asks_of_one rows (Report a) (Make b) same x y = absurd cc
-asks_of_one rows (Report a) (Run b) same x y = absurd cc
-asks_of_one rows (Report a) Table same x y = absurd cc
-asks_of_one rows (Report a) (WhatIf b) same x y = absurd cc
-asks_of_one rows (Report a) (Banks b) same x y = absurd cc
-asks_of_one rows (Report a) (Root b) same x y = absurd cc
-asks_of_one rows (Report a) (Audit b) same x y = absurd cc
-asks_of_one rows (Make a) (Solve b) same x y = absurd cc
-asks_of_one rows (Make a) (Check b) same x y = absurd cc
-asks_of_one rows (Make a) (Day b) same x y = absurd cc
-asks_of_one rows (Make a) (Report b) same x y = absurd cc
-asks_of_one rows (Make a) (Make b) same x y = ap Make (asks_for_sizes_one rows a b x.case y.case)
-asks_of_one rows (Make a) (Run b) same x y = absurd (x.no_run y.run)
-asks_of_one rows (Make a) Table same x y = absurd cc
-asks_of_one rows (Make a) (WhatIf b) same x y = absurd cc
-asks_of_one rows (Make a) (Banks b) same x y = absurd cc
-asks_of_one rows (Make a) (Root b) same x y = absurd cc
-asks_of_one rows (Make a) (Audit b) same x y = absurd cc
-asks_of_one rows (Run a) (Solve b) same x y = absurd cc
-asks_of_one rows (Run a) (Check b) same x y = absurd cc
-asks_of_one rows (Run a) (Day b) same x y = absurd cc
-asks_of_one rows (Run a) (Report b) same x y = absurd cc
-asks_of_one rows (Run a) (Make b) same x y = absurd (y.no_run x.run)
-asks_of_one rows (Run a) (Run b) same x y = ap Run (asks_to_run_one rows a b x y)
-asks_of_one rows (Run a) Table same x y = absurd cc
-asks_of_one rows (Run a) (WhatIf b) same x y = absurd cc
-asks_of_one rows (Run a) (Banks b) same x y = absurd cc
-asks_of_one rows (Run a) (Root b) same x y = absurd cc
-asks_of_one rows (Run a) (Audit b) same x y = absurd cc
-asks_of_one rows Table (Solve b) same x y = absurd cc
-asks_of_one rows Table (Check b) same x y = absurd cc
-asks_of_one rows Table (Day b) same x y = absurd cc
-asks_of_one rows Table (Report b) same x y = absurd cc
-asks_of_one rows Table (Make b) same x y = absurd cc
-asks_of_one rows Table (Run b) same x y = absurd cc
-asks_of_one rows Table Table same x y = refl
-asks_of_one rows Table (WhatIf b) same x y = absurd cc
-asks_of_one rows Table (Banks b) same x y = absurd cc
-asks_of_one rows Table (Root b) same x y = absurd cc
-asks_of_one rows Table (Audit b) same x y = absurd cc
-asks_of_one rows (WhatIf a) (Solve b) same x y = absurd cc
-asks_of_one rows (WhatIf a) (Check b) same x y = absurd cc
-asks_of_one rows (WhatIf a) (Day b) same x y = absurd cc
-asks_of_one rows (WhatIf a) (Report b) same x y = absurd cc
-asks_of_one rows (WhatIf a) (Make b) same x y = absurd cc
-asks_of_one rows (WhatIf a) (Run b) same x y = absurd cc
-asks_of_one rows (WhatIf a) Table same x y = absurd cc
-asks_of_one rows (WhatIf a) (WhatIf b) same x y = ap WhatIf (asks_for_search_one rows a b x y)
-asks_of_one rows (WhatIf a) (Banks b) same x y = absurd cc
-asks_of_one rows (WhatIf a) (Root b) same x y = absurd cc
-asks_of_one rows (WhatIf a) (Audit b) same x y = absurd cc
-asks_of_one rows (Banks a) (Solve b) same x y = absurd cc
-asks_of_one rows (Banks a) (Check b) same x y = absurd cc
-asks_of_one rows (Banks a) (Day b) same x y = absurd cc
-asks_of_one rows (Banks a) (Report b) same x y = absurd cc
-asks_of_one rows (Banks a) (Make b) same x y = absurd cc
-asks_of_one rows (Banks a) (Run b) same x y = absurd cc
-asks_of_one rows (Banks a) Table same x y = absurd cc
-asks_of_one rows (Banks a) (WhatIf b) same x y = absurd cc
-asks_of_one rows (Banks a) (Banks b) same x y = ap Banks (asks_for_search_one rows a b x y)
-asks_of_one rows (Banks a) (Root b) same x y = absurd cc
-asks_of_one rows (Banks a) (Audit b) same x y = absurd cc
-asks_of_one rows (Root a) (Solve b) same x y = absurd cc
-asks_of_one rows (Root a) (Check b) same x y = absurd cc
-asks_of_one rows (Root a) (Day b) same x y = absurd cc
-asks_of_one rows (Root a) (Report b) same x y = absurd cc
-asks_of_one rows (Root a) (Make b) same x y = absurd cc
-asks_of_one rows (Root a) (Run b) same x y = absurd cc
-asks_of_one rows (Root a) Table same x y = absurd cc
-asks_of_one rows (Root a) (WhatIf b) same x y = absurd cc
-asks_of_one rows (Root a) (Banks b) same x y = absurd cc
-asks_of_one rows (Root a) (Root b) same x y = ap Root (asks_for_root_one rows a b x y)
-asks_of_one rows (Root a) (Audit b) same x y = absurd cc
-asks_of_one rows (Audit a) (Solve b) same x y = absurd cc
-asks_of_one rows (Audit a) (Check b) same x y = absurd cc
-asks_of_one rows (Audit a) (Day b) same x y = absurd cc
-asks_of_one rows (Audit a) (Report b) same x y = absurd cc
-asks_of_one rows (Audit a) (Make b) same x y = absurd cc
-asks_of_one rows (Audit a) (Run b) same x y = absurd cc
-asks_of_one rows (Audit a) Table same x y = absurd cc
-asks_of_one rows (Audit a) (WhatIf b) same x y = absurd cc
-asks_of_one rows (Audit a) (Banks b) same x y = absurd cc
-asks_of_one rows (Audit a) (Root b) same x y = absurd cc
-asks_of_one rows (Audit a) (Audit b) same x y = ap Audit (asks_to_check_one rows a b x y)
+-- what rows ask for, by the command
+abbrev AsksFor : CommandWord → List Row → Request → Type 0
+AsksFor command.Solve rows request = (options : SolveOptions) × (request ≡ Solve options) × AsksToSolve rows options
+AsksFor command.Check rows request = (options : CheckOptions) × (request ≡ Check options) × AsksToCheck rows options
+AsksFor command.Day rows request = (options : DayOptions) × (request ≡ Day options) × AsksForDay rows options
+AsksFor command.Report rows request = (options : SearchOptions) × (request ≡ Report options) × AsksForSearch rows options
+AsksFor command.Make rows request =
+    ((sizes : CaseSizes) × (request ≡ Make sizes) × AsksToMake rows sizes) ⊎ ((options : RunOptions) × (request ≡ Run options) × AsksToRun rows options)
+AsksFor command.Table rows request = request ≡ Table
+AsksFor command.WhatIf rows request = (options : SearchOptions) × (request ≡ WhatIf options) × AsksForSearch rows options
+AsksFor command.Banks rows request = (options : SearchOptions) × (request ≡ Banks options) × AsksForSearch rows options
+AsksFor command.Root rows request = (options : RootOptions) × (request ≡ Root options) × AsksForRoot rows options
+AsksFor command.Audit rows request = (options : CheckOptions) × (request ≡ Audit options) × AsksToCheck rows options
+
+asks_for : (rows : List Row) (request : Request) → Asks rows request → AsksFor (command_asked request) rows request
+asks_for rows (Solve options) x = (options, refl, x)
+asks_for rows (Check options) x = (options, refl, x)
+asks_for rows (Day options) x = (options, refl, x)
+asks_for rows (Report options) x = (options, refl, x)
+asks_for rows (Make sizes) x = inl (sizes, refl, x)
+asks_for rows (Run options) x = inr (options, refl, x)
+asks_for rows Table x = refl
+asks_for rows (WhatIf options) x = (options, refl, x)
+asks_for rows (Banks options) x = (options, refl, x)
+asks_for rows (Root options) x = (options, refl, x)
+asks_for rows (Audit options) x = (options, refl, x)
+
+-- of each command that is one request
+one_of : (named : CommandWord) (rows : List Row) (a b : Request) → AsksFor named rows a → AsksFor named rows b → a ≡ b
+one_of command.Solve rows a b x y = x.1 ∙ ap Solve (asks_to_solve_one rows x.0 y.0 x.2 y.2) ∙ sym y.1
+one_of command.Check rows a b x y = x.1 ∙ ap Check (asks_to_check_one rows x.0 y.0 x.2 y.2) ∙ sym y.1
+one_of command.Day rows a b x y = x.1 ∙ ap Day (asks_for_day_one rows x.0 y.0 x.2 y.2) ∙ sym y.1
+one_of command.Report rows a b x y = x.1 ∙ ap Report (asks_for_search_one rows x.0 y.0 x.2 y.2) ∙ sym y.1
+one_of command.Make rows a b (inl x) (inl y) = x.1 ∙ ap Make (asks_for_sizes_one rows x.0 y.0 x.2.case y.2.case) ∙ sym y.1
+one_of command.Make rows a b (inl x) (inr y) = absurd (x.2.no_run y.2.run)
+one_of command.Make rows a b (inr x) (inl y) = absurd (y.2.no_run x.2.run)
+one_of command.Make rows a b (inr x) (inr y) = x.1 ∙ ap Run (asks_to_run_one rows x.0 y.0 x.2 y.2) ∙ sym y.1
+one_of command.Table rows a b x y = x ∙ sym y
+one_of command.WhatIf rows a b x y = x.1 ∙ ap WhatIf (asks_for_search_one rows x.0 y.0 x.2 y.2) ∙ sym y.1
+one_of command.Banks rows a b x y = x.1 ∙ ap Banks (asks_for_search_one rows x.0 y.0 x.2 y.2) ∙ sym y.1
+one_of command.Root rows a b x y = x.1 ∙ ap Root (asks_for_root_one rows x.0 y.0 x.2 y.2) ∙ sym y.1
+one_of command.Audit rows a b x y = x.1 ∙ ap Audit (asks_to_check_one rows x.0 y.0 x.2 y.2) ∙ sym y.1
 
 pub asks_one : (named : CommandWord) (rows : List Row) (a b : Request) → AsksBy named rows a → AsksBy named rows b → a ≡ b
-asks_one named rows a b x y = asks_of_one rows a b (x.0 ∙ sym y.0) x.1 y.1
+asks_one named rows a b x y = one_of named rows a b (told a x) (told b y)
+  where
+    told : (request : Request) → AsksBy named rows request → AsksFor named rows request
+    told request asks = subst (λ k. AsksFor k rows request) asks.0 (asks_for rows request asks.1)
 
 -- ---- the words that are taken
 

@@ -1,5 +1,6 @@
 -- The table of commands and their options.
-use Rattle.std.specs.Prelude.{◌^◌, ◌-◌, List, [], ◌∷◌, fold, codes, Option, Some, None, if◌then◌else◌}
+use Rattle.std.specs.Prelude.{◌^◌, ◌-◌, List, [], ◌∷◌, fold, codes, Option}
+use Rattle.std.specs.List.{find}
 use Rattle.std.specs.Str.{bytes_eq}
 use Rattle.clap.specs.Walk.{Text}
 use Rattle.clap.specs.Simple.{App, new_app}
@@ -33,18 +34,12 @@ word_of Banks = codes "banks"
 word_of Root = codes "root"
 word_of Audit = codes "audit"
 
+abbrev pub all_commands : List CommandWord
+all_commands = Solve ∷ Check ∷ Day ∷ Report ∷ Make ∷ Table ∷ WhatIf ∷ Banks ∷ Root ∷ Audit ∷ []
+
 -- the command that a word names
 abbrev pub command_of : Text → Option CommandWord
-command_of word = if bytes_eq word (codes "solve") then Some Solve
-    else (if bytes_eq word (codes "check") then Some Check
-    else (if bytes_eq word (codes "day") then Some Day
-    else (if bytes_eq word (codes "report") then Some Report
-    else (if bytes_eq word (codes "make") then Some Make
-    else (if bytes_eq word (codes "table") then Some Table
-    else (if bytes_eq word (codes "whatif") then Some WhatIf
-    else (if bytes_eq word (codes "banks") then Some Banks
-    else (if bytes_eq word (codes "root") then Some Root
-    else (if bytes_eq word (codes "audit") then Some Audit else None)))))))))
+command_of word = find (λ command. bytes_eq word (word_of command)) all_commands
 
 -- the options of a command that take a number
 abbrev pub numbers_of : CommandWord → List NumberOption
