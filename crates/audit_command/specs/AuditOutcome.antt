@@ -8,7 +8,7 @@ use Rattle.day_audit.specs.declared.findings.Finding.{Finding}
 use Rattle.day_audit.specs.declared.findings.Finding.TheVariants.{Differs, Row, Text}
 use Rattle.day_audit.specs.declared.logs.Audited.{Audited}
 use Rattle.day_audit.specs.Inputs.{EndsIfJudged, HoldsIn, IsAudit}
-use Rattle.command_ends.specs.Ends.{Streams, DueTexts, IsRefusalLine}
+use Rattle.command_ends.specs.Ends.{DueTexts, Ends, IsRefusalLine, Streams}
 use Rattle.command_ends.specs.declared.status.Status.{Status}
 use Rattle.command_ends.specs.declared.status.Status.TheVariants.{Done, Words, Stopped, Refused, Input, Read, Write, Memory}
 use Rattle.audit_command.specs.AuditTexts.{differs_text, row_text, yes_text}
@@ -61,3 +61,8 @@ abbrev pub EndsAudits : (old new : Streams) → Status → Type 0
 EndsAudits old new status =
     (Rose old.read_faults new.read_faults → ⊥) → (Rose old.write_faults new.write_faults → ⊥) → (status ≡ Done) ⊎ (status ≡ Refused) ⊎ (status ≡ Input)
     ⊎ (status ≡ Memory)
+
+-- A log is judged, and any other input is refused.
+pub record RunsAudit (old new : Streams) (status : Status) : Type 0 where
+  pub ends : Ends (AuditDue old.left new.left) old new status
+  pub audits : EndsAudits old new status

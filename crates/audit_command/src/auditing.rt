@@ -1,8 +1,7 @@
 //! The command `audit`.
 
-ghost use Rattle.std.specs.Prelude.{◌≤◌};
-ghost use Rattle.audit_command.specs.AuditOutcome.{AuditDue, EndsAudits};
-ghost use Rattle.command_ends.specs.Ends.{Ends, streams};
+ghost use Rattle.audit_command.specs.AuditOutcome.{RunsAudit};
+ghost use Rattle.command_ends.specs.Ends.{streams};
 
 use crate::writing::answer_of;
 use byte_streams::{Gate, Sink, Source};
@@ -17,11 +16,7 @@ pub fn audit<S: Source, K: Sink, C: JudgingCrew, G: Gate>(
     source: &mut S,
     sink: &mut K,
 ) -> Status
-    ensures ends { Ends (AuditDue (S.left source.old) (S.left source.new))
-        (streams (S.left source.old) (K.taken sink.old) (S.faults source.old) (K.faults sink.old))
-        (streams (S.left source.new) (K.taken sink.new) (S.faults source.new)
-        (K.faults sink.new)) result }
-    ensures audits { EndsAudits
+    ensures { RunsAudit
         (streams (S.left source.old) (K.taken sink.old) (S.faults source.old) (K.faults sink.old))
         (streams (S.left source.new) (K.taken sink.new) (S.faults source.new)
         (K.faults sink.new)) result }

@@ -1,4 +1,3 @@
-pub mod Outcomes
 pub mod MadeCases
 pub mod SearchBounds
 pub mod Solutions

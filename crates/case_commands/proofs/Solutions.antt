@@ -1,6 +1,5 @@
 -- What is written of what a search answers.
-use Rattle.std.proofs.Common.{◌≡◌, ℕ, ◌≤◌, ◌==◌, Bool, true, false, List, ◌++◌, refl, sym, ap, ◌∙◌, subst, inl, inr, arith}
-use Rattle.std.specs.Prelude.{◌⊎◌, Option}
+use Rattle.std.proofs.Common.{◌≡◌, ℕ, ◌≤◌, ◌==◌, Bool, true, false, List, ◌++◌, refl, sym, ap, ◌∙◌, subst, arith}
 use Rattle.std.proofs.lemmas.Bool.{eqb-true}
 use Rattle.elevator_model.specs.declared.Stop.{Stop}
 use Rattle.elevator_model.specs.Snapshot.{Snapshot, IsAccepted, car_count}
@@ -18,12 +17,10 @@ use Rattle.search_model.specs.declared.Stated.{Stated}
 use Rattle.answer_text.specs.Texts.{answer_text}
 use Rattle.lift_words.specs.declared.request.SolveOptions.{SolveOptions}
 use Rattle.command_ends.specs.declared.status.Status.{Status}
-use Rattle.command_ends.specs.declared.status.Status.TheVariants.{Done, Stopped, Memory}
+use Rattle.command_ends.specs.declared.status.Status.TheVariants.{Done}
 use Rattle.case_commands.specs.declared.endings.Ending.{Ending}
-use Rattle.case_commands.specs.declared.endings.Ending.TheVariants.{IsSolved, OfRounds, OfMoves, OfTime, OfClaims}
-use Rattle.command_ends.specs.Ends.{Streams, Ends, Puts}
-use Rattle.command_ends.proofs.EndLemmas.{ends_either}
-use Rattle.case_commands.specs.SolveOutcome.{SolveDue, AnswerIsDue, AreEnough, IsAnswered, IsPrinted, IsSolution, certificate_part, closing_line, ending_of}
+use Rattle.case_text.specs.CaseTexts.{IsCaseText}
+use Rattle.case_commands.specs.SolveOutcome.{AreEnough, CanBeChecked, IsPrinted, IsSaidYes, IsSolution, NamesReason, certificate_part, closing_line, ending_of}
 use Rattle.case_commands.specs.SolveOutcome.{status_of_ending}
 use Rattle.case_commands.specs.MakeOutcome.{status_of}
 use Rattle.case_commands.proofs.SearchBounds.{bound_low}
@@ -79,7 +76,8 @@ printed_low options s stated tree bound certificate printed false e = (printed.c
 
 module _ (options : SolveOptions) (s : Snapshot) (stated : Stated) (tree : List Twig) (turns : List Turn) (why : StopReason) (accepted : IsAccepted s)
     (answer : IsSolveAnswer s options.limits.rounds options.limits.most_tours stated.plan stated.cost stated.bound tree turns why)
-    (enough : rounds_enough s ≤ options.limits.rounds → tours_enough s ≤ options.limits.most_tours → why ≡ Solved) (bound : ℕ) (certificate : List Twig)
+    (enough : rounds_enough s ≤ options.limits.rounds → tours_enough s ≤ options.limits.most_tours → why ≡ Solved)
+    (named : NamesReason s options.limits.rounds options.limits.most_tours stated tree turns why) (bound : ℕ) (certificate : List Twig)
     (printed : IsPrinted options s stated tree bound certificate) where
   abbrev shown : Stated
   shown = record { plan = stated.plan; cost = stated.cost; bound = bound }
@@ -102,8 +100,9 @@ module _ (options : SolveOptions) (s : Snapshot) (stated : Stated) (tree : List 
       omega (arith, lower, most)
 
   pub is_solution : (end : Ending) (status : Status) (text : List ℕ) → end ≡ ending → status ≡ status_of_ending end
-      → text ≡ answer_text s shown ++ certificate_part options s certificate ++ closing_line s end → IsSolution options s status text
-  is_solution end status text end_is is written =
+      → text ≡ answer_text s shown ++ certificate_part options s certificate ++ closing_line s end → (AreEnough options s → status ≡ Done)
+      → ((input : List ℕ) → IsCaseText input s → CanBeChecked options input → IsSaidYes (input ++ text) s) → IsSolution options s status text
+  is_solution end status text end_is is written unstopped checks =
       record {
         stated = stated;
         tree = tree;
@@ -111,6 +110,7 @@ module _ (options : SolveOptions) (s : Snapshot) (stated : Stated) (tree : List 
         why = why;
         answer = answer;
         enough = enough;
+        named = named;
         bound = bound;
         certificate = certificate;
         printed = printed;
@@ -121,34 +121,6 @@ module _ (options : SolveOptions) (s : Snapshot) (stated : Stated) (tree : List 
             best (eqb-true stated.cost bound (solved_where_done why options.claims (stated.cost == bound) (ap status_of_ending (sym end_is) ∙ sym is ∙ done)));
         least = least;
         is_text = written;
+        unstopped = unstopped;
+        checks = checks;
       }
-
--- the status of an answer
-pub ended_by : (ending : Ending) (status : Status) → status ≡ status_of_ending ending → (status ≡ Done) ⊎ (status ≡ Stopped)
-ended_by IsSolved status is = inl is
-ended_by (OfRounds done) status is = inr is
-ended_by (OfMoves car count) status is = inr is
-ended_by OfTime status is = inr is
-ended_by (OfClaims limit) status is = inr is
-
--- the answer that was put, unless the sink failed
-pub is_answered : (options : SolveOptions) (s t : Snapshot) (status result : Status) (text : List ℕ) → s ≡ t → result ≡ status
-    → IsSolution options s status text → (AreEnough options s → status ≡ Done) → IsAnswered options t result
-is_answered options s t status result text same put solution enough =
-    record {
-      ended = elim (ended_by solution.ending status solution.status_is) [ inl done ↦ first (put ∙ done) | inr stopped ↦ second (put ∙ stopped) ];
-      enough = λ all. inl (put ∙ enough (subst (AreEnough options) (sym same) all));
-    }
-  where
-    first : result ≡ Done → (result ≡ Done) ⊎ (result ≡ Stopped) ⊎ (result ≡ Memory)
-    first e = inl e
-
-    second : result ≡ Stopped → (result ≡ Done) ⊎ (result ≡ Stopped) ⊎ (result ≡ Memory)
-    second e = inr (inl e)
-
-pub ends_answered : (options : SolveOptions) (left left' : Option (List ℕ)) (old new : Streams) (text : List ℕ) (status result : Status)
-    → AnswerIsDue options left left' status text → Puts text status result old.taken new.taken old.write_faults new.write_faults
-    → Ends (SolveDue options left left') old new result
-ends_answered options left left' old new text status result due put =
-    ends_either (SolveDue options left left') old new text Done Stopped status result (λ (x : Status). AnswerIsDue options left left' x text) (λ due. due)
-    (λ wrote. wrote) (λ due. due) (λ wrote. wrote) (ended_by due.solution.ending status due.solution.status_is) due put

@@ -1,98 +1,66 @@
--- What is written of a verdict.
-use Rattle.std.proofs.Common.{◌≡◌, ℕ, List, [], ◌∷◌, Option, Some, Result, option_map, refl, sym, ap, ◌∙◌, subst, inl, inr}
-use Rattle.std.specs.Prelude.{◌⊎◌, IfSome}
-use Rattle.std.specs.Io.KnownBytes.{IsAtEnd}
-use Rattle.elevator_model.specs.Snapshot.{Snapshot, IsAccepted}
-use Rattle.search_model.specs.declared.Twig.{Twig}
-use Rattle.search_model.specs.declared.Verdict.{Verdict}
-use Rattle.search_model.specs.declared.Verdict.TheVariants.{Yes, No}
-use Rattle.search_model.specs.Certificates.{root_place}
+-- What is read for the check of a certificate, and the verdict on it.
+use Rattle.std.proofs.Common.{◌≡◌, [], ◌∷◌, Option, Some, None, Ok, Err, refl, sym, ◌∙◌, subst}
+use Rattle.std.specs.Prelude.{IsTrue, length}
+use Rattle.elevator_model.specs.Snapshot.{IsAccepted, car_count}
+use Rattle.search_model.specs.Certificates.{is_whole, root_place}
 use Rattle.cert_text.proofs.TreeLemmas.{filled}
-use Rattle.search_model.specs.Verdicts.{verdict_of}
-use Rattle.lift_text.specs.Reading.{reading, whole_text}
+use Rattle.lift_text.specs.Reading.{TextState}
 use Rattle.lift_text.specs.declared.faults.TextFault.{TextFault}
-use Rattle.search_model.specs.declared.Stated.{Stated}
 use Rattle.cert_checker.proofs.VerdictLaws.{verdict_holds, sufficient_holds, yes_holds}
 use Rattle.check_text.specs.declared.checked.Checked.{Checked}
-use Rattle.check_text.specs.CheckTexts.{IsCheckAlone, IsChecked, IsCheckOf, IsCheckText, IsAnsweredCheck, TakesChecks}
-use Rattle.check_text.specs.VerdictTexts.{verdict_text}
-use Rattle.command_ends.specs.declared.status.Status.{Status}
-use Rattle.command_ends.specs.declared.status.Status.TheVariants.{Done, Refused}
-use Rattle.command_ends.specs.Ends.{Streams, Ends, Puts}
-use Rattle.command_ends.proofs.EndLemmas.{ends_either}
-use Rattle.case_commands.specs.CheckOutcome.{CheckDue, VerdictIsDue, IsJudged, status_of_verdict}
+use Rattle.check_text.specs.CheckTexts.{IsCheckOf, IsChecked, IsRefusedCheck, TakesChecks}
+use Rattle.command_ends.specs.declared.input_faults.InputFault.TheVariants.{Text}
+use Rattle.command_ends.specs.WholeTexts.{IsReadAs, IsRefusedAs, Takes}
+use Rattle.case_commands.specs.CheckOutcome.{CheckInput, IsCheckedAs, check_form}
 
--- ---- of what was read
-
-pub takes_input : (left : Option (List ℕ)) (input : List ℕ) (s : Snapshot) (stated : Stated) (tree : List Twig) (answer : Result Checked TextFault)
-    → left ≡ Some input → IsCheckText input s stated tree
-    → TakesChecks (option_map whole_text left) answer → IsAnsweredCheck s stated tree answer
-takes_input left input s stated tree answer given case takes =
-    (subst (λ (x : Option (List ℕ)). TakesChecks (option_map whole_text x) answer) given takes) s stated tree case
-
-pub none_checked : (left : Option (List ℕ)) (input : List ℕ) (checked : Checked) → left ≡ Some input → IsChecked (option_map whole_text left) checked
-    → ((s : Snapshot) (stated : Stated) (tree : List Twig) → IsCheckText input s stated tree → ⊥) → ⊥
-none_checked left input checked given is none =
-    let read = subst (λ (x : Option (List ℕ)). IsChecked (option_map whole_text x) checked) given is in
-    none checked.snapshot read.stated read.tree read.read
-
--- ---- the verdict
-
-yes_by : (verdict : Verdict) → status_of_verdict verdict ≡ Done → verdict ≡ Yes
-yes_by Yes e = refl
-yes_by (No reason) e = absurd cc
-
-pub verdict_due : (left left' : Option (List ℕ)) (checked : Checked) → IsChecked (option_map whole_text left) checked → IsAtEnd left'
-    → (status : Status) (text : List ℕ)
-    → status ≡ status_of_verdict checked.verdict → text ≡ verdict_text checked.snapshot checked.cost checked.bound checked.verdict
-    → VerdictIsDue left left' status text
-verdict_due left left' checked is ended status text of_verdict written =
-    let s = checked.snapshot in
-    let stated = is.stated in
-    let verdict = verdict_of s stated.plan stated.cost stated.bound is.tree in
-    let says : status ≡ status_of_verdict verdict = of_verdict ∙ ap status_of_verdict is.verdict in
-    let means = verdict_holds s stated.plan stated.cost stated.bound is.tree is.accepted is.cars is.whole in
+-- what was checked has the verdict that it is due
+checked_as : (said : CheckInput) (checked : Checked) → IsAccepted said.snapshot → length said.stated.plan ≡ car_count said.snapshot
+    → IsTrue (is_whole said.snapshot said.tree) → IsCheckOf said.snapshot said.stated said.tree checked → IsCheckedAs checked said
+checked_as said checked accepted cars whole is =
+    let s = said.snapshot in
+    let stated = said.stated in
+    let means = verdict_holds s stated.plan stated.cost stated.bound said.tree accepted cars whole in
     record {
-      snapshot = s;
-      stated = stated;
-      tree = is.tree;
-      accepted = is.accepted;
-      read = λ input given.
-          subst (λ (x : Option (List ℕ)). IfSome (option_map whole_text x) (λ before. IsCheckAlone (reading before) s stated is.tree)) given is.read;
-      ended = ended;
-      status_is = says;
-      is_text = written ∙ ap (λ (n : ℕ). verdict_text s n checked.bound checked.verdict) is.cost
-          ∙ ap (λ (n : ℕ). verdict_text s stated.cost n checked.verdict) is.bound ∙ ap (verdict_text s stated.cost stated.bound) is.verdict;
-      yes = (
-        λ done. record { proves = means.proof (yes_by verdict (sym says ∙ done)); claims = means.claims (yes_by verdict (sym says ∙ done)) },
-        λ proved. says ∙ ap status_of_verdict (means.yes proved.proves proved.claims),
-      );
-      bound = λ done. (yes_holds s stated.plan stated.cost stated.bound is.tree is.accepted is.cars is.whole (yes_by verdict (sym says ∙ done))).least;
+      snapshot = is.snapshot;
+      cost = is.cost;
+      bound = is.bound;
+      verdict = record {
+        is = is.verdict;
+        yes = (
+          λ yes. record { proves = means.proof (sym is.verdict ∙ yes); claims = means.claims (sym is.verdict ∙ yes) },
+          λ proved. is.verdict ∙ means.yes proved.proves proved.claims,
+        );
+        bound = λ yes. (yes_holds s stated.plan stated.cost stated.bound said.tree accepted cars whole (sym is.verdict ∙ yes)).least;
+        enough = λ proves claims.
+            is.verdict ∙ (sufficient_holds s stated.plan stated.cost stated.bound said.tree accepted cars whole claims).1 proves;
+      };
     }
 
-either_status : (verdict : Verdict) (status : Status) → status ≡ status_of_verdict verdict → (status ≡ Done) ⊎ (status ≡ Refused)
-either_status Yes status is = inl is
-either_status (No reason) status is = inr is
+-- the input that was checked
+abbrev input_of : (before : Option TextState) (checked : Checked) → IsChecked before checked → CheckInput
+input_of before checked is = record { snapshot = checked.snapshot; stated = is.stated; tree = is.tree }
 
-pub ends_judged : (left left' : Option (List ℕ)) (old new : Streams) (text : List ℕ) (status result : Status) → VerdictIsDue left left' status text
-    → Puts text status result old.taken new.taken old.write_faults new.write_faults → Ends (CheckDue left left') old new result
-ends_judged left left' old new text status result due put =
-    let either = either_status (verdict_of due.snapshot due.stated.plan due.stated.cost due.stated.bound due.tree) status due.status_is in
-    ends_either (CheckDue left left') old new text Done Refused status result (λ (x : Status). VerdictIsDue left left' x text) (λ due. due) (λ wrote. wrote)
-    (λ due. due) (λ wrote. wrote) either due put
+pub read_as : (before : Option TextState) (checked : Checked) → IsChecked before checked → IsReadAs check_form before checked
+read_as before checked is =
+    let said = input_of before checked is in (
+      said,
+      checked_as said checked is.accepted is.cars is.whole (record { snapshot = refl; cost = is.cost; bound = is.bound; verdict = is.verdict }),
+      is.read,
+    )
 
-pub is_judged : (left : Option (List ℕ)) (input : List ℕ) (s : Snapshot) (stated : Stated) (tree : List Twig) (checked : Checked) (status result : Status)
-    → IsCheckText input s stated tree
-    → IsChecked (option_map whole_text left) checked → IsCheckOf s stated tree checked → status ≡ status_of_verdict checked.verdict → result ≡ status
-    → IsJudged s stated tree result
-is_judged left input s stated tree checked status result case is of_input of_verdict put =
-    let says : result ≡ status_of_verdict (verdict_of s stated.plan stated.cost stated.bound tree) = put ∙ of_verdict ∙ ap status_of_verdict of_input.verdict in
-    let accepted = subst IsAccepted of_input.snapshot is.accepted in
-    let cars = case.1.answer.2.each_car in
-    let whole = filled (root_place s ∷ []) tree case.1.certificate.2.whole in
-    record {
-      ended = inl says;
-      enough =
-          λ proves claims.
-          inl (says ∙ ap status_of_verdict ((sufficient_holds s stated.plan stated.cost stated.bound tree accepted cars whole claims).1 proves));
-    }
+pub refused_as : (before : Option TextState) (fault : TextFault) → IsRefusedCheck before fault → IsRefusedAs check_form before (Text fault)
+refused_as None fault refused = tt
+refused_as (Some text) fault refused = refused
+
+-- where the text says something, that is what was checked
+pub takes_checked : (before : Option TextState) (checked : Checked) → IsChecked before checked → TakesChecks before (Ok checked)
+    → Takes check_form before (Ok checked)
+takes_checked None checked is takes said = tt
+takes_checked (Some text) checked is takes said = λ says.
+    (let of_input = takes said.snapshot said.stated said.tree says in
+    checked_as said checked (subst IsAccepted of_input.snapshot is.accepted) says.1.answer.2.each_car
+    (filled (root_place said.snapshot ∷ []) said.tree says.1.certificate.2.whole) of_input)
+
+pub takes_fault : (before : Option TextState) (fault : TextFault) → TakesChecks before (Err fault) → Takes check_form before (Err (Text fault))
+takes_fault None fault takes said = tt
+takes_fault (Some text) fault takes said = λ says. takes said.snapshot said.stated said.tree says

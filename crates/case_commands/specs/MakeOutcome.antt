@@ -14,9 +14,10 @@ use Rattle.search_model.specs.Verdicts.{rounds_enough, tours_enough}
 use Rattle.search_model.specs.Cases.{IsCase}
 use Rattle.lift_words.specs.declared.request.CaseSizes.{CaseSizes}
 use Rattle.lift_words.specs.declared.request.RunOptions.{RunOptions}
+use Rattle.byte_streams.specs.Streams.{Rose}
 use Rattle.command_ends.specs.declared.status.Status.{Status}
 use Rattle.command_ends.specs.declared.status.Status.TheVariants.{Done, Words, Stopped, Refused, Input, Read, Write, Memory}
-use Rattle.command_ends.specs.Ends.{DueTexts}
+use Rattle.command_ends.specs.Ends.{DueTexts, Ends, Streams}
 
 -- ---- without `--run`
 
@@ -89,8 +90,22 @@ SolvedCaseDue options Read text = ⊥
 SolvedCaseDue options Write text = ⊥
 SolvedCaseDue options Memory text = ⊥
 
--- The case is solved within the limits, or memory is wanting; and where the limits are enough for it, no limit is reached.
+-- The case is solved within the limits, or memory ran out; and where the limits are enough for it, no limit is reached.
 pub record IsCaseSolved (options : RunOptions) (status : Status) : Type 0 where
   pub ended : (status ≡ Done) ⊎ (status ≡ Stopped) ⊎ (status ≡ Memory)
   pub enough : (s : Snapshot) → IsCaseOf options.sizes s → rounds_enough s ≤ options.limits.rounds → tours_enough s ≤ options.limits.most_tours
       → (status ≡ Done) ⊎ (status ≡ Memory)
+
+-- ---- how they end; they read nothing
+
+-- A generated case is written, unless the sink fails or memory runs out.
+pub record RunsMake (sizes : CaseSizes) (old new : Streams) (status : Status) : Type 0 where
+  pub ends : Ends (MakeDue sizes) old new status
+  pub unread : new.left ≡ old.left
+  pub makes : (Rose old.write_faults new.write_faults → ⊥) → (status ≡ Done) ⊎ (status ≡ Memory)
+
+-- It is solved, and cost and bound are written.
+pub record RunsSolvedCase (options : RunOptions) (old new : Streams) (status : Status) : Type 0 where
+  pub ends : Ends (SolvedCaseDue options) old new status
+  pub unread : new.left ≡ old.left
+  pub solves : (Rose old.write_faults new.write_faults → ⊥) → IsCaseSolved options status

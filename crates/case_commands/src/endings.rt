@@ -1,6 +1,7 @@
 //! Why the answer of `solve` ends as it does.
 
 ghost use Rattle.std.specs.Prelude.{◌≡◌};
+ghost use Rattle.command_ends.specs.Runs.{IsOfAnswer};
 ghost use Rattle.case_commands.specs.SolveOutcome.{ending_of, status_of_ending};
 
 use command_ends::Status;
@@ -39,7 +40,8 @@ impl Ending {
 
     /// The status with which the answer is written.
     pub(crate) fn status(self) -> Status
-        ensures { result ≡ status_of_ending self }
+        ensures is { result ≡ status_of_ending self }
+        ensures answers { IsOfAnswer result }
     {
         match self {
             Self::IsSolved => Status::Done,

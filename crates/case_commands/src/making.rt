@@ -1,12 +1,11 @@
 //! The command `make`, with `--run` and without it.
-ghost use Rattle.std.specs.Prelude.{◌≡◌, ◌≤◌, ◌⊎◌, ℕ, List, Option, IfOk};
-ghost use Rattle.byte_streams.specs.Streams.{Rose};
+ghost use Rattle.std.specs.Prelude.{◌≡◌, ◌≤◌, ℕ, List, Option, IfOk};
 ghost use Rattle.elevator_model.specs.Snapshot.{IsAccepted, Snapshot as SnapshotLem};
 ghost use Rattle.search_model.specs.Verdicts.{tours_enough, rounds_enough};
 ghost use Rattle.lift_words.specs.Taken.{AreCaseSizes, AreRunOptions};
-ghost use Rattle.command_ends.specs.Ends.{Ends, streams};
-ghost use Rattle.case_commands.specs.MakeOutcome.{IsCaseOf, IsCaseSolved, IsMadeCase, IsSolvedCase, MakeDue};
-ghost use Rattle.case_commands.specs.MakeOutcome.{SolvedCaseDue, run_text};
+ghost use Rattle.command_ends.specs.Ends.{streams};
+ghost use Rattle.case_commands.specs.MakeOutcome.{IsCaseOf, IsMadeCase, IsSolvedCase, RunsMake, RunsSolvedCase};
+ghost use Rattle.case_commands.specs.MakeOutcome.{run_text};
 
 use crate::status::status_of;
 use byte_streams::{Gate, Sink};
@@ -43,11 +42,9 @@ fn made_case(alloc: Global, sizes: CaseSizes) -> Result<Vec<u8>, AllocError>
 /// Writes a generated case. Nothing is read.
 pub fn write_made_case<K: Sink>(alloc: Global, sizes: CaseSizes, sink: &mut K) -> Status
     requires { AreCaseSizes sizes }
-    ensures ends { (left : Option (List ℕ)) (faults : ℕ) → Ends (MakeDue sizes)
+    ensures { (left : Option (List ℕ)) (faults : ℕ) → RunsMake sizes
         (streams left (K.taken sink.old) faults (K.faults sink.old))
         (streams left (K.taken sink.new) faults (K.faults sink.new)) result }
-    ensures makes { (Rose (K.faults sink.old) (K.faults sink.new) → ⊥)
-        → (result ≡ Status.Done) ⊎ (result ≡ Status.Memory) }
 {
     match made_case(alloc, sizes) {
         Ok(text) => put(sink, text.as_slice(), Status::Done),
@@ -98,10 +95,9 @@ pub fn write_solved_case<K: Sink, C: SearchCrew, G: Gate>(
     sink: &mut K,
 ) -> Status
     requires { AreRunOptions options }
-    ensures ends { (left : Option (List ℕ)) (faults : ℕ) → Ends (SolvedCaseDue options)
+    ensures { (left : Option (List ℕ)) (faults : ℕ) → RunsSolvedCase options
         (streams left (K.taken sink.old) faults (K.faults sink.old))
         (streams left (K.taken sink.new) faults (K.faults sink.new)) result }
-    ensures solves { (Rose (K.faults sink.old) (K.faults sink.new) → ⊥) → IsCaseSolved options result }
 {
     match solved_case(runtime, options) {
         Ok(answer) => put(sink, answer.text.as_slice(), answer.status),

@@ -1,12 +1,5 @@
 //! The command `solve`.
-ghost use Rattle.std.specs.Prelude.{◌≡◌, ◌≤◌, ◌++◌, All, List, ℕ, Some, IfErr, IfOk, OnOk, IsErrOf};
-ghost use Rattle.std.specs.Prelude.{option_map};
-ghost use Rattle.std.specs.Io.KnownBytes.{IsAtEnd};
-ghost use Rattle.byte_streams.specs.Streams.{Rose};
-ghost use Rattle.elevator_model.specs.Snapshot.{IsAccepted};
-ghost use Rattle.lift_text.specs.Reading.{whole_text, reading};
-ghost use Rattle.lift_text.specs.Shows.{FaultShows};
-ghost use Rattle.case_text.specs.CaseTexts.{IsCaseText, IsLoneCaseFault, Tells};
+ghost use Rattle.std.specs.Prelude.{◌≡◌, ◌≤◌, ◌++◌, All, IfOk, OnOk};
 ghost use Rattle.search_model.specs.Certificates.{Proves};
 ghost use Rattle.search_model.specs.Solving.{floor_of_bound};
 ghost use Rattle.search_tree.specs.Sheets.{IsSizedTwig};
@@ -14,9 +7,9 @@ ghost use Rattle.answer_text.specs.Texts.{answer_text};
 ghost use Rattle.answer_text.specs.Plans.{FitsSnapshot};
 ghost use Rattle.cert_text.specs.Trees.{AreTwigsKnown};
 ghost use Rattle.lift_words.specs.Taken.{AreSolveOptions};
-ghost use Rattle.command_ends.specs.Ends.{Ends, streams};
-ghost use Rattle.case_commands.specs.SolveOutcome.{AnswersCases, AreEnough, CanBeChecked, IsCarOf, IsPrinted};
-ghost use Rattle.case_commands.specs.SolveOutcome.{IsSaidYes, IsSolution, Refuses, SolveDue, Solves};
+ghost use Rattle.command_ends.specs.Ends.{streams};
+ghost use Rattle.command_ends.specs.Runs.{IsOfAnswer};
+ghost use Rattle.case_commands.specs.SolveOutcome.{IsCarOf, IsPrinted, IsSolution, RunsSolve};
 ghost use Rattle.case_commands.specs.SolveOutcome.{certificate_part, closing_line};
 
 use crate::endings::Ending;
@@ -28,37 +21,14 @@ use case_text::read_lone_case;
 use cert_claims::{Claimed, CountingCrew};
 use cert_text::write_cert;
 use certified_search::certify;
-use command_ends::{Answer, Status, put, put_fault};
+use command_ends::{Answer, Command, InputFault, Status, WholeText, run_command};
 use elevator_model::MOST_CALLS;
-use lift_text::{LineReader, TextFault, put_line};
+use lift_text::{LineReader, put_line};
 use lift_words::SolveOptions;
 use search_model::{Stated, Twig};
 use snapshot_solver::{SearchCrew, solve as solve_within};
 use std::alloc::{AllocError, Global};
 use work_fan::Runtime;
-
-/// The snapshot that the whole input is the text of.
-fn read_input<S: Source>(alloc: Global, source: &mut S) -> Result<Snapshot, TextFault>
-    ensures case { (input : List ℕ) → S.left source.old ≡ Some input
-        → IfOk result (IsCaseText input) }
-    ensures refused { (input : List ℕ) → S.left source.old ≡ Some input
-        → IfErr result (λ fault. Tells fault (IsLoneCaseFault (reading (whole_text input)) fault)) }
-    ensures takes { AnswersCases (S.left source.old) result }
-    ensures accepted { IfOk result IsAccepted }
-    ensures ended { OnOk result (IsAtEnd (S.left source.new)) }
-    ensures shows { IfErr result (λ fault.
-        FaultShows (option_map whole_text (S.left source.old)) fault (S.left source.new)) }
-    ensures read { IsErrOf result TextFault.Read
-        → Rose (S.faults source.old) (S.faults source.new) }
-{
-    let mut lines = match LineReader::new(alloc, source) {
-        Ok(lines) => lines,
-        Err(_) => return Err(TextFault::NoMemory),
-    };
-    let read = read_lone_case(alloc, &mut lines);
-    lines.into_source();
-    read
-}
 
 /// Appends the comment line that says why an answer ends as it does.
 fn put_closing(snapshot: &Snapshot, ending: Ending, text: &mut Vec<u8>) -> Result<(), AllocError>
@@ -157,9 +127,7 @@ fn solution_of<C: SearchCrew + CountingCrew, G: Gate>(
 ) -> Result<Answer, AllocError>
     requires options { AreSolveOptions options }
     ensures solution { IfOk result (λ answer. IsSolution options snapshot.now answer.status answer.text.items) }
-    ensures enough { AreEnough options snapshot.now → IfOk result (λ answer. answer.status ≡ Status.Done) }
-    ensures checks { (input : List ℕ) → IsCaseText input snapshot.now → CanBeChecked options input
-        → IfOk result (λ answer. IsSaidYes (input ++ answer.text.items) snapshot.now) }
+    ensures status { IfOk result (λ answer. IsOfAnswer answer.status) }
 {
     prove!(snapshot.calls().len() <= MOST_CALLS);
     let found = solve_within(runtime, snapshot, options.limits)?;
@@ -188,6 +156,43 @@ fn solution_of<C: SearchCrew + CountingCrew, G: Gate>(
     })
 }
 
+/// Answers cases with plans that searches find, within limits.
+#[derive(Drop)]
+struct Solving<'a, C: SearchCrew + CountingCrew, G: Gate> {
+    runtime: &'a Runtime<'a, C, G>,
+    options: SolveOptions,
+    ghost within: { AreSolveOptions options },
+}
+
+impl<'a, C: SearchCrew + CountingCrew, G: Gate> WholeText for Solving<'a, C, G> {
+    ghost use Rattle.command_ends.specs.WholeTexts.{case_form};
+
+    type Value = Snapshot;
+
+    ghost form = { λ _. case_form };
+
+    fn read<S: Source>(
+        &self,
+        alloc: Global,
+        lines: &mut LineReader<S>,
+    ) -> Result<Snapshot, InputFault> {
+        match read_lone_case(alloc, lines) {
+            Ok(snapshot) => Ok(snapshot),
+            Err(fault) => Err(InputFault::Text(fault)),
+        }
+    }
+}
+
+impl<'a, C: SearchCrew + CountingCrew, G: Gate> Command for Solving<'a, C, G> {
+    ghost use Rattle.case_commands.specs.SolveOutcome.{IsSolution};
+
+    ghost told = { λ it. IsSolution it.options };
+
+    fn answer(&self, _alloc: Global, snapshot: &Snapshot) -> Result<Answer, AllocError> {
+        solution_of(self.runtime, self.options, snapshot)
+    }
+}
+
 /// Reads a case and writes the cheapest plan of it that the search finds within the limits, or what is wrong
 /// with the input.
 pub fn solve<S: Source, K: Sink, C: SearchCrew + CountingCrew, G: Gate>(
@@ -197,24 +202,11 @@ pub fn solve<S: Source, K: Sink, C: SearchCrew + CountingCrew, G: Gate>(
     sink: &mut K,
 ) -> Status
     requires { AreSolveOptions options }
-    ensures ends { Ends (SolveDue options (S.left source.old) (S.left source.new))
-        (streams (S.left source.old) (K.taken sink.old) (S.faults source.old) (K.faults sink.old))
-        (streams (S.left source.new) (K.taken sink.new) (S.faults source.new)
-        (K.faults sink.new)) result }
-    ensures solves { Solves options
-        (streams (S.left source.old) (K.taken sink.old) (S.faults source.old) (K.faults sink.old))
-        (streams (S.left source.new) (K.taken sink.new) (S.faults source.new)
-        (K.faults sink.new)) result }
-    ensures refuses { Refuses
+    ensures { RunsSolve options
         (streams (S.left source.old) (K.taken sink.old) (S.faults source.old) (K.faults sink.old))
         (streams (S.left source.new) (K.taken sink.new) (S.faults source.new)
         (K.faults sink.new)) result }
 {
-    match read_input(runtime.alloc, source) {
-        Ok(snapshot) => match solution_of(runtime, options, &snapshot) {
-            Ok(answer) => put(sink, answer.text.as_slice(), answer.status),
-            Err(_) => Status::Memory,
-        },
-        Err(fault) => put_fault(runtime.alloc, fault, sink),
-    }
+    let command = Solving { runtime, options };
+    run_command(runtime.alloc, &command, source, sink)
 }

@@ -1,6 +1,7 @@
 //! The statuses of answers.
 
 ghost use Rattle.std.specs.Prelude.{◌≡◌};
+ghost use Rattle.command_ends.specs.Runs.{IsOfAnswer};
 ghost use Rattle.case_commands.specs.CheckOutcome.{status_of_verdict as status_of_verdict_lem};
 ghost use Rattle.case_commands.specs.MakeOutcome.{status_of as status_of_lem};
 
@@ -19,7 +20,8 @@ pub(crate) fn status_of(why: StopReason) -> Status
 
 /// The status with which a verdict is written.
 pub(crate) fn status_of_verdict(verdict: &Verdict) -> Status
-    ensures { result ≡ status_of_verdict_lem verdict.now }
+    ensures is { result ≡ status_of_verdict_lem verdict.now }
+    ensures answers { IsOfAnswer result }
 {
     match verdict {
         Verdict::Yes => Status::Done,

@@ -14,7 +14,7 @@ use Rattle.command_ends.specs.declared.status.Status.TheVariants.{Done, Words, S
 use Rattle.command_ends.specs.Ends.{DueTexts, Ends, IsOwnLine, Puts, Streams}
 use Rattle.command_ends.specs.InputFaults.{IsFaultLine, PutsInputFault, Shows, Tells}
 use Rattle.command_ends.specs.WholeTexts.{Form, IsAnswered, IsReadAs, IsRefusedAs, Takes}
-use Rattle.command_ends.specs.Runs.{AnswerIsDue, Due, IsOfAnswer, IsToldSo, NoneFailed, RefusalIsDue, Runs}
+use Rattle.command_ends.specs.Runs.{AnswerIsDue, Due, IsOfAnswer, IsToldSo, RefusalIsDue, Runs}
 use Rattle.command_ends.proofs.EndLemmas.{ends_fault, ends_line, ends_put, fault_memory, fault_status, line_status, put_whole}
 
 -- ---- of any fault
@@ -106,10 +106,10 @@ pub runs_answer : {V : Type 0} (form : Form V) (told : V → DueTexts) (old new 
 runs_answer {V} form told old new value text status result right read takes ended is_told fits put =
     record {
       ends = ends_answer form told old.left new.left old new text status result due fits put;
-      answers = λ input said given says none.
-          inl (so said (answer_of form old.left (Ok value) takes input said given says)
+      answers = λ input said none says.
+          inl (so said (answer_of form old.left (Ok value) takes input said none.given says)
           (put_whole text status result old.taken new.taken old.write_faults new.write_faults put none.writes));
-      refuses = λ input given none fine. absurd (none read.0 (read_of form old.left read.0 read.2 input given));
+      refuses = λ input fine none. absurd (none read.0 (read_of form old.left read.0 read.2 input fine.given));
     }
   where
     due : AnswerIsDue form told old.left new.left status text
@@ -129,7 +129,7 @@ runs_answer {V} form told old new value text status result right read takes ende
 -- memory ran out while the input was answered
 pub runs_out : {V : Type 0} (form : Form V) (told : V → DueTexts) (old new : Streams) → new.taken ≡ old.taken → Runs form told old new Memory
 runs_out form told old new same =
-    record { ends = same; answers = λ input said given says none. inr refl; refuses = λ input given none fine. inr refl }
+    record { ends = same; answers = λ input said none says. inr refl; refuses = λ input fine none. inr refl }
 
 -- what is wrong with the input was put
 pub runs_refused : {V : Type 0} (form : Form V) (told : V → DueTexts) (old new : Streams) (fault : InputFault) (result : Status)
@@ -139,8 +139,8 @@ pub runs_refused : {V : Type 0} (form : Form V) (told : V → DueTexts) (old new
 runs_refused form told old new fault result refused takes shows rose put =
     record {
       ends = ends_refused form told old.left new.left fault old new result refused shows rose put;
-      answers = λ input said given says none. inr (memory_of fault result old.taken new.taken old.write_faults new.write_faults put
-          (answer_of form old.left (Err fault) takes input said given says) (λ e. none.reads (rose e)));
-      refuses = λ input given none fine. status_of fault result old.taken new.taken old.write_faults new.write_faults put
+      answers = λ input said none says. inr (memory_of fault result old.taken new.taken old.write_faults new.write_faults put
+          (answer_of form old.left (Err fault) takes input said none.given says) (λ e. none.reads (rose e)));
+      refuses = λ input fine none. status_of fault result old.taken new.taken old.write_faults new.write_faults put
           (λ e. fine.reads (rose e)) fine.writes;
     }

@@ -21,12 +21,17 @@ IsOfAnswer Read = ⊥
 IsOfAnswer Write = ⊥
 IsOfAnswer Memory = ⊥
 
--- neither the source nor the sink failed
-pub record NoneFailed (old new : Streams) : Type 0 where
+-- The source had this input, and neither it nor the sink failed.
+pub record NoneFailed (old new : Streams) (input : List ℕ) : Type 0 where
+  pub given : old.left ≡ Some input
   pub reads : Rose old.read_faults new.read_faults → ⊥
   pub writes : Rose old.write_faults new.write_faults → ⊥
 
 module _ {V : Type 0} (form : Form V) where
+  -- the input says nothing
+  abbrev pub SaysNothing : (input : List ℕ) → Type 0
+  SaysNothing input = (said : form.Meaning) → form.says (whole_text input) said → ⊥
+
   -- The refusal line is due where the input says nothing, with what is wrong with it first, and where the end of the line
   -- that it names shows in the bytes that were taken.
   pub record RefusalIsDue (left left' : Option (List ℕ)) (text : List ℕ) : Type 0 where
@@ -68,9 +73,8 @@ module _ {V : Type 0} (form : Form V) (told : V → DueTexts) where
   pub record Runs (old new : Streams) (status : Status) : Type 0 where
     -- what was read and written, with each status
     pub ends : Ends (Due old.left new.left) old new status
-    -- the input says something, so it is told of that, or memory ran out, unless the source or the sink failed
-    pub answers : (input : List ℕ) (said : form.Meaning) → old.left ≡ Some input → form.says (whole_text input) said → NoneFailed old new
+    -- where the input says something, it is told of that, or memory ran out
+    pub answers : (input : List ℕ) (said : form.Meaning) → NoneFailed old new input → form.says (whole_text input) said
         → IsToldSo said status ⊎ (status ≡ Memory)
-    -- the input says nothing, so it is refused, or memory ran out, unless the source or the sink failed
-    pub refuses : (input : List ℕ) → old.left ≡ Some input → ((said : form.Meaning) → form.says (whole_text input) said → ⊥) → NoneFailed old new
-        → (status ≡ Input) ⊎ (status ≡ Memory)
+    -- where it says nothing, it is refused, or memory ran out
+    pub refuses : (input : List ℕ) → NoneFailed old new input → SaysNothing form input → (status ≡ Input) ⊎ (status ≡ Memory)

@@ -1,5 +1,5 @@
 -- Whole texts of one form, and what a reader of them answers.
-use Rattle.std.specs.Prelude.{◌≡◌, ℕ, List, Option, IfSome, Result, Ok, Err}
+use Rattle.std.specs.Prelude.{◌≡◌, Option, IfSome, Result, Ok, Err}
 use Rattle.elevator_model.specs.Snapshot.{Snapshot, IsAccepted}
 use Rattle.lift_text.specs.Reading.{TextState, reading}
 use Rattle.case_text.specs.CaseTexts.{IsCaseAlone, IsLoneCaseFault}

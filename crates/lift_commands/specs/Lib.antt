@@ -1,3 +1,2 @@
-pub mod Outcome
-pub mod Further
+pub mod Runs
 pub mod Unread

@@ -3,13 +3,23 @@
 //!
 //! # What is promised
 //!
-//! Sixteen clauses of `run`, over the definitions in `specs/Outcome.antt`, `specs/Further.antt` and
-//! `specs/Unread.antt`, and those of the commands: `specs/Ends.antt` of `command_ends` says how any of them ends,
-//! `specs/SolveOutcome.antt`, `specs/CheckOutcome.antt` and `specs/MakeOutcome.antt` of `case_commands`,
-//! `specs/DayOutcome.antt` of `day_commands`, `specs/TableOutcome.antt` and `specs/WhatIfOutcome.antt` of
-//! `further_commands`, `specs/BanksOutcome.antt` of `group_commands`, `specs/RootOutcome.antt` of
-//! `root_command` and `specs/AuditOutcome.antt` of `audit_command` what is written. What they say of the
-//! input holds where the source tells what it has left.
+//! Three clauses of `run`:
+//!
+//! - `runs`: what the words ask for is done. `RunsRequest` (`specs/Runs.antt`) is a table of requests: for each
+//!   it names what its command leaves, in the definitions of the command.
+//! - `refuses`: other words get the usage line (`RefusesWords`), unless the sink fails or memory runs out.
+//! - `unread`: words that ask for no input (`AskForNoInput`, `specs/Unread.antt`), those of `make` and such as
+//!   are not taken, leave the source as it was, its count of faults too, with every status.
+//!
+//! What is left of a request says, for each status, what was read and written (`Ends` of `command_ends`): a
+//! text that is due was written whole, and with Write a part of one, where the sink's count of faults rose;
+//! with Read the source's rose, and nothing was written; with Memory nothing was written. With Input the
+//! line that was written refuses the input, with what is wrong with it, and the end of the line that it names
+//! shows in the bytes that were taken. And it says that what the input asks for comes, unless the source or the
+//! sink fails or memory runs out: of an input that says something an answer (`answers` of `Runs`), of any
+//! other a refusal (`refuses`). What is said of the input holds where the source tells what it has left.
+//!
+//! # The commands
 //!
 //! **`solve`.** Status 0: the whole input was read and is the text of an accepted snapshot, and what was
 //! written is an **optimal** plan of it, its cost and an equal bound, for 1 to 16 workers, and without
@@ -74,68 +84,22 @@
 //! bound is below the cost, never where the limits are enough; nothing is read.
 //!
 //! Status 2 comes exactly where the words are not taken, with the usage line. Each other status comes exactly
-//! when it is due, and says what was written. By words that ask for no input, those of `make` and such as are
-//! not taken, the source is left as it was, whatever the status.
+//! when it is due, and says what was written.
 //!
-//! # The clauses
-//!
-//! - `ends` says for each status what was read and written, by words of other commands than `day`,
-//!   `report`, `table`, `whatif`, `banks`, `root` and `audit`. A text is *due* with a status (`RunDue`). By
-//!   words of `solve` the input is the text of an accepted snapshot (`IsCaseText`), and the text written is due
-//!   as a search answers it (`IsSolution`), with a certificate unless `--brief` is given: the tree of that
-//!   search with the claims that are due or, exactly where these go beyond their limit, another one with
-//!   the bound that it proves (`IsCertified`). Where the input ends with LF, has at most 1,000,000 bytes
-//!   and the limits are at most the defaults (`CanBeChecked`), input and text together are an input of
-//!   `check` whose verdict is yes (`IsSaidYes`). By words of `check`, Done and Refused come with the text
-//!   of the verdict (`VerdictIsDue`): the input is the text of an accepted snapshot, an answer and a
-//!   certificate (`IsCheckText`), and the verdict is that of the definition. By words of `make`, the text
-//!   is that of the generated case; or the six lines of `make --run` (`IsSolvedCase`). With Input the
-//!   refusal line, with what is wrong with the input (`IsLoneCaseFault`, of `check` `IsCheckFault`); the
-//!   end of the line that it names shows in the bytes that were taken (`FaultShows`): they have its LF, or
-//!   more than 4,097 of its bytes, or nothing of the source is left. With Words the usage line, where no
-//!   request is taken from the words. With Write a part of a text that is due was written, and the sink's
-//!   count of faults rose; with Read the source's rose, and nothing was written; with Memory nothing was
-//!   written.
-//! - `solves`: by words of `solve`, the text of an accepted snapshot and no fault give Done, Stopped or
-//!   Memory, and never Stopped where the limits are enough for the snapshot. `refuses`: any other input and
-//!   no fault give Input or Memory.
-//! - `checks`: by words of `check`, a text of a case, an answer and a certificate and no fault give the
-//!   status of its verdict, or Memory; Done where the certificate proves and its claims are enough for any
-//!   search. `refuses_checks`: any other input and no fault give Input or Memory.
-//! - `makes`: words of `make` without `--run` and no fault of the sink give Done or Memory. `runs`: words of
-//!   `make --run` and no fault of the sink give Done, Stopped or Memory, and never Stopped where the limits
-//!   are enough for the case.
-//! - `days`: by words of `day`, what was read, done and written with each status (`DayEnds`): with Done and
-//!   Stopped the log of the whole day, where a planner's plan is what a search within the limits answers
-//!   (`IsSolvedRow`), and Stopped exactly where an accepted row has a bound below its cost; there the limits
-//!   are not enough for the snapshot (`IsDayStopped`); with Input the refusal line alone, or after the log of
-//!   the rows that end within the limit; with Read, Write and Memory which rows were done and how much of
-//!   their log was written, and with Read nothing only where no opening is whole, each line with its LF,
-//!   among the bytes that were taken (`IsNotBegun`). After each row that was done every accepted call is open,
-//!   aboard or delivered (`RanWithin`). And the day of an opening and rows comes to its end unless the source
-//!   or the sink fails or memory runs out (`Completes`).
-//! - `reports`: by words of `report`, the same day without a log, and with Done and Stopped the text of its
-//!   report (`ReportDue`).
-//! - `tables`: by words of `table`, what was read and written with each status, that a table is judged and any
-//!   other input refused, unless the source or the sink fails or memory runs out (`RunsTable`).
-//! - `what_if`: by words of `whatif`, what was read and written with each status, that a case whose last call
-//!   is asked about is answered, and any other input refused, unless the source or the sink fails or memory
-//!   runs out (`RunsWhatIf`).
-//! - `banks`: by words of `banks`, what was read and written with each status, that the text of banks is
-//!   answered, and any other input refused, unless the source or the sink fails or memory runs out
-//!   (`RunsBanks`).
-//! - `at_root`: by words of `root`, what was read and written with each status, that a case is answered, and
-//!   any other input refused, unless the source or the sink fails or memory runs out (`RunsRoot`).
-//! - `audits`: by words of `audit`, what was read and written with each status (`AuditDue`), and that a log is
-//!   judged or the input refused, unless the source or the sink fails or memory runs out (`RunsAudit`).
-//! - `refuses_words`: all other words and no fault of the sink give Words or Memory.
-//! - `unread`: words that ask for no input (`AskForNoInput`) leave the source as it was, its count of faults
-//!   too, with every status.
+//! | request | what is left of it |
+//! | --- | --- |
+//! | `solve` | `RunsSolve`: a solution of the case is told (`IsSolution`, `specs/SolveOutcome.antt` of `case_commands`) |
+//! | `check` | `RunsCheck`: the verdict on what is stated (`IsVerdictOn`, `specs/CheckOutcome.antt`) |
+//! | `make` | `RunsMake`, `RunsSolvedCase` (`specs/MakeOutcome.antt`) |
+//! | `day`, `report` | `RunsDay`, `ReportsDay` (`specs/DayOutcome.antt` of `day_commands`) |
+//! | `table`, `whatif` | `RunsTable`, `RunsWhatIf` (`further_commands`) |
+//! | `banks` | `RunsBanks` (`group_commands`) |
+//! | `root` | `RunsRoot` (`root_command`) |
+//! | `audit` | `RunsAudit` (`audit_command`) |
 //!
 //! A further command has its words in `lift_words` and its function in a crate of its own on `command_ends`,
 //! which says how any command ends, and all of one that reads a whole text (`Runs`). Here it takes one arm of
-//! `run` and a clause of its own by its words, as `day` has (`DaysByWords`); its words are left out of `ends`
-//! as those of `day` are (`AskOthers`), and `ReadsNothing` says whether they ask for input.
+//! `run_request`, a line of `RunsRequest` and one of `ReadsNothing`.
 #![tactic(auto)]
 
 mod running;

@@ -1,13 +1,11 @@
 //! The top call of the program.
 
 ghost use Rattle.std.specs.Prelude.{◌≡◌, map, string_bytes};
-ghost use Rattle.command_ends.specs.Ends.{Ends, streams};
-ghost use Rattle.lift_commands.specs.Further.{AskOthers, AuditsByWords, BanksByWords, RootByWords};
-ghost use Rattle.lift_commands.specs.Further.{TablesByWords, WhatIfByWords};
-ghost use Rattle.lift_commands.specs.Outcome.{RunDue, SolvesByWords, RefusesByWords, ChecksByWords};
-ghost use Rattle.lift_commands.specs.Outcome.{RefusesChecksByWords, DaysByWords, ReportsByWords, MakesByWords};
-ghost use Rattle.lift_commands.specs.Outcome.{RunsByWords, RefusesWords};
-ghost use Rattle.lift_commands.specs.Unread.{AskForNoInput};
+ghost use Rattle.command_ends.specs.Ends.{streams};
+ghost use Rattle.lift_words.specs.Taken.{AreTaken, IsWithin};
+ghost use Rattle.lift_words.specs.declared.request.Request.{Request};
+ghost use Rattle.lift_commands.specs.Runs.{AskForNothing, RefusesWords, RunsRequest};
+ghost use Rattle.lift_commands.specs.Unread.{AskForNoInput, ReadsNothing};
 
 use audit_command::audit;
 use byte_streams::{Gate, Sink, Source};
@@ -80,101 +78,15 @@ pub fn run<S: Source, K: Sink, C: SearchCrew + CountingCrew + JudgingCrew + Grou
     sink: &mut K,
     gate: &G,
 ) -> Status
-    // What was read and written, and why it ended, by words of other commands than `day`, `report`, `table`,
-    // `whatif`, `banks`, `root` and `audit`.
-    ensures ends { AskOthers (map string_bytes words.now)
-        → Ends (RunDue (map string_bytes words.now) (S.left source.old) (S.left source.new))
+    // What the words ask for is done: `RunsRequest` says for each request what was read and written, and why
+    // it ended.
+    ensures runs { (request : Request) → AreTaken (map string_bytes words.now) request → RunsRequest request
         (streams (S.left source.old) (K.taken sink.old) (S.faults source.old) (K.faults sink.old))
         (streams (S.left source.new) (K.taken sink.new) (S.faults source.new)
         (K.faults sink.new)) result }
 
-    // `solve`: a case is solved, unless the source or the sink fails or memory runs out.
-    ensures solves { SolvesByWords (map string_bytes words.now)
-        (streams (S.left source.old) (K.taken sink.old) (S.faults source.old) (K.faults sink.old))
-        (streams (S.left source.new) (K.taken sink.new) (S.faults source.new)
-        (K.faults sink.new)) result }
-
-    // `solve`: whatever else is read is refused, unless the source or the sink fails or memory runs out.
-    ensures refuses { RefusesByWords (map string_bytes words.now)
-        (streams (S.left source.old) (K.taken sink.old) (S.faults source.old) (K.faults sink.old))
-        (streams (S.left source.new) (K.taken sink.new) (S.faults source.new)
-        (K.faults sink.new)) result }
-
-    // `check`: a verdict is given of a case with an answer and a certificate, unless the source or the sink
-    // fails or memory runs out.
-    ensures checks { ChecksByWords (map string_bytes words.now)
-        (streams (S.left source.old) (K.taken sink.old) (S.faults source.old) (K.faults sink.old))
-        (streams (S.left source.new) (K.taken sink.new) (S.faults source.new)
-        (K.faults sink.new)) result }
-
-    // `check`: whatever else is read is refused, unless the source or the sink fails or memory runs out.
-    ensures refuses_checks { RefusesChecksByWords (map string_bytes words.now)
-        (streams (S.left source.old) (K.taken sink.old) (S.faults source.old) (K.faults sink.old))
-        (streams (S.left source.new) (K.taken sink.new) (S.faults source.new)
-        (K.faults sink.new)) result }
-
-    // `day`: the log of a day is written as its rows come, and the day comes to its end unless the source or
-    // the sink fails or memory runs out.
-    ensures days { DaysByWords (map string_bytes words.now)
-        (streams (S.left source.old) (K.taken sink.old) (S.faults source.old) (K.faults sink.old))
-        (streams (S.left source.new) (K.taken sink.new) (S.faults source.new)
-        (K.faults sink.new)) result }
-
-    // `report`: the report of a day is written, unless the source or the sink fails or memory runs out.
-    ensures reports { ReportsByWords (map string_bytes words.now)
-        (streams (S.left source.old) (K.taken sink.old) (S.faults source.old) (K.faults sink.old))
-        (streams (S.left source.new) (K.taken sink.new) (S.faults source.new)
-        (K.faults sink.new)) result }
-
-    // `table`: a table is judged, and whatever else is read is refused, unless the source or the sink fails or
-    // memory runs out.
-    ensures tables { TablesByWords (map string_bytes words.now)
-        (streams (S.left source.old) (K.taken sink.old) (S.faults source.old) (K.faults sink.old))
-        (streams (S.left source.new) (K.taken sink.new) (S.faults source.new)
-        (K.faults sink.new)) result }
-
-    // `whatif`: a case is answered, and whatever else is read is refused, unless the source or the sink fails
-    // or memory runs out.
-    ensures what_if { WhatIfByWords (map string_bytes words.now)
-        (streams (S.left source.old) (K.taken sink.old) (S.faults source.old) (K.faults sink.old))
-        (streams (S.left source.new) (K.taken sink.new) (S.faults source.new)
-        (K.faults sink.new)) result }
-
-    // `banks`: the days of banks are run, and whatever else is read is refused, unless the source or the sink
-    // fails or memory runs out.
-    ensures banks { BanksByWords (map string_bytes words.now)
-        (streams (S.left source.old) (K.taken sink.old) (S.faults source.old) (K.faults sink.old))
-        (streams (S.left source.new) (K.taken sink.new) (S.faults source.new)
-        (K.faults sink.new)) result }
-
-    // `root`: a case is answered, and whatever else is read is refused, unless the source or the sink fails or
-    // memory runs out.
-    ensures at_root { RootByWords (map string_bytes words.now)
-        (streams (S.left source.old) (K.taken sink.old) (S.faults source.old) (K.faults sink.old))
-        (streams (S.left source.new) (K.taken sink.new) (S.faults source.new)
-        (K.faults sink.new)) result }
-
-    // `audit`: a log is judged, and whatever else is read is refused, unless the source or the sink fails or
-    // memory runs out.
-    ensures audits { AuditsByWords (map string_bytes words.now)
-        (streams (S.left source.old) (K.taken sink.old) (S.faults source.old) (K.faults sink.old))
-        (streams (S.left source.new) (K.taken sink.new) (S.faults source.new)
-        (K.faults sink.new)) result }
-
-    // `make`: a case is written, unless the sink fails or memory runs out.
-    ensures makes { MakesByWords (map string_bytes words.now)
-        (streams (S.left source.old) (K.taken sink.old) (S.faults source.old) (K.faults sink.old))
-        (streams (S.left source.new) (K.taken sink.new) (S.faults source.new)
-        (K.faults sink.new)) result }
-
-    // `make --run`: a case is solved, unless the sink fails or memory runs out.
-    ensures runs { RunsByWords (map string_bytes words.now)
-        (streams (S.left source.old) (K.taken sink.old) (S.faults source.old) (K.faults sink.old))
-        (streams (S.left source.new) (K.taken sink.new) (S.faults source.new)
-        (K.faults sink.new)) result }
-
-    // Other words get the usage line, unless the sink fails or memory runs out.
-    ensures refuses_words { RefusesWords (map string_bytes words.now)
+    // Other words get the usage line.
+    ensures refuses { AskForNothing (map string_bytes words.now) → RefusesWords
         (streams (S.left source.old) (K.taken sink.old) (S.faults source.old) (K.faults sink.old))
         (streams (S.left source.new) (K.taken sink.new) (S.faults source.new)
         (K.faults sink.new)) result }
@@ -182,46 +94,67 @@ pub fn run<S: Source, K: Sink, C: SearchCrew + CountingCrew + JudgingCrew + Grou
     // Words that ask for no input, as those of `make` do, leave the source as it was, whatever the status.
     ensures unread { AskForNoInput (map string_bytes words.now) → source.new ≡ source.old }
 {
-    let quiet = Watch::new(gate, Watched::Nothing);
     match read_words(alloc, words) {
-        Ok(Request::Solve(options)) => {
+        Ok(request) => run_request(crew, alloc, request, source, sink, gate),
+        Err(WordsFault::NotTaken) => put(sink, USAGE, Status::Words),
+        Err(WordsFault::NoMemory) => Status::Memory,
+    }
+}
+
+/// Does what is asked for, from the source to the sink.
+fn run_request<S: Source, K: Sink, C: SearchCrew + CountingCrew + JudgingCrew + GroupCrew, G: Gate>(
+    crew: &C,
+    alloc: Global,
+    request: Request,
+    source: &mut S,
+    sink: &mut K,
+    gate: &G,
+) -> Status
+    requires { IsWithin request }
+    ensures runs { RunsRequest request
+        (streams (S.left source.old) (K.taken sink.old) (S.faults source.old) (K.faults sink.old))
+        (streams (S.left source.new) (K.taken sink.new) (S.faults source.new)
+        (K.faults sink.new)) result }
+    ensures unread { ReadsNothing request → source.new ≡ source.old }
+{
+    let quiet = Watch::new(gate, Watched::Nothing);
+    match request {
+        Request::Solve(options) => {
             let watch = Watch::new(gate, Watched::Search.only_if(options.progress));
             let runtime = runtime(crew, options.workers, alloc, &watch);
             solve(&runtime, options, source, sink)
         }
-        Ok(Request::Check(options)) => {
+        Request::Check(options) => {
             let runtime = runtime(crew, options.workers, alloc, &quiet);
             check(&runtime, source, sink)
         }
-        Ok(Request::Day(options)) => {
+        Request::Day(options) => {
             let watch = Watch::new(gate, Watched::Rows.only_if(options.progress));
             let runtime = runtime(crew, options.search.workers, alloc, &watch);
             day(&runtime, options, source, sink)
         }
-        Ok(Request::Report(options)) => {
+        Request::Report(options) => {
             let runtime = runtime(crew, options.workers, alloc, &quiet);
             report(&runtime, options.without_certificates(), source, sink)
         }
-        Ok(Request::Make(sizes)) => write_made_case(alloc, sizes, sink),
-        Ok(Request::Run(options)) => {
+        Request::Make(sizes) => write_made_case(alloc, sizes, sink),
+        Request::Run(options) => {
             let runtime = runtime(crew, Workers::one(), alloc, &quiet);
             write_solved_case(&runtime, options, sink)
         }
-        Ok(Request::Table) => table(alloc, source, sink),
-        Ok(Request::WhatIf(options)) => {
+        Request::Table => table(alloc, source, sink),
+        Request::WhatIf(options) => {
             let runtime = runtime(crew, options.workers, alloc, &quiet);
             whatif(&runtime, options.limits, source, sink)
         }
-        Ok(Request::Banks(options)) => {
+        Request::Banks(options) => {
             let runtime = runtime(crew, options.workers, alloc, &quiet);
             banks(&runtime, options.limits, source, sink)
         }
-        Ok(Request::Root(options)) => root(alloc, options.limits, source, sink),
-        Ok(Request::Audit(options)) => {
+        Request::Root(options) => root(alloc, options.limits, source, sink),
+        Request::Audit(options) => {
             let runtime = runtime(crew, options.workers, alloc, &quiet);
             audit(&runtime, source, sink)
         }
-        Err(WordsFault::NotTaken) => put(sink, USAGE, Status::Words),
-        Err(WordsFault::NoMemory) => Status::Memory,
     }
 }
