@@ -6,3 +6,7 @@ pub mod SaidYes
 pub mod Printed
 pub mod Enough
 pub mod Verdicts
+pub mod ExtraTextLemmas
+pub mod WhatIfLemmas
+pub mod RootLemmas
+pub mod RootTextLemmas

@@ -1,3 +1,9 @@
 pub mod SolveOutcome
 pub mod CheckOutcome
 pub mod MakeOutcome
+pub mod TableOutcome
+pub mod WhatIfOutcome
+pub mod WorkedExtras
+pub mod RootTexts
+pub mod RootOutcome
+pub mod WorkedRoots

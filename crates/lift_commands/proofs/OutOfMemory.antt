@@ -9,10 +9,10 @@ use Rattle.command_ends.specs.WholeTexts.{case_form}
 use Rattle.command_ends.proofs.RunLemmas.{runs_out}
 use Rattle.case_commands.specs.SolveOutcome.{IsSolution}
 use Rattle.case_commands.specs.CheckOutcome.{IsVerdictTold, check_form}
-use Rattle.further_commands.specs.TableOutcome.{IsToldOf, table_form}
-use Rattle.further_commands.specs.WhatIfOutcome.{IsTold, asked_form}
-use Rattle.group_commands.specs.BanksOutcome.{AreTold, banks_form}
-use Rattle.root_command.specs.RootOutcome.{IsRootTold}
+use Rattle.case_commands.specs.TableOutcome.{IsToldOf, table_form}
+use Rattle.case_commands.specs.WhatIfOutcome.{IsTold, asked_form}
+use Rattle.day_commands.specs.BanksOutcome.{AreTold, banks_form}
+use Rattle.case_commands.specs.RootOutcome.{IsRootTold}
 use Rattle.lift_commands.specs.Runs.{RunsRequest}
 
 pub out_of_memory : (request : Request) (old : Streams) → RunsRequest request old old Memory

@@ -11,11 +11,11 @@ use Rattle.case_commands.specs.SolveOutcome.{RunsSolve}
 use Rattle.case_commands.specs.CheckOutcome.{RunsCheck}
 use Rattle.case_commands.specs.MakeOutcome.{RunsMake, RunsSolvedCase}
 use Rattle.day_commands.specs.DayOutcome.{ReportsDay, RunsDay}
-use Rattle.further_commands.specs.TableOutcome.{RunsTable}
-use Rattle.further_commands.specs.WhatIfOutcome.{RunsWhatIf}
-use Rattle.group_commands.specs.BanksOutcome.{RunsBanks}
-use Rattle.root_command.specs.RootOutcome.{RunsRoot}
-use Rattle.audit_command.specs.AuditOutcome.{RunsAudit}
+use Rattle.case_commands.specs.TableOutcome.{RunsTable}
+use Rattle.case_commands.specs.WhatIfOutcome.{RunsWhatIf}
+use Rattle.day_commands.specs.BanksOutcome.{RunsBanks}
+use Rattle.case_commands.specs.RootOutcome.{RunsRoot}
+use Rattle.day_commands.specs.AuditOutcome.{RunsAudit}
 
 -- what is left of what the words ask for
 abbrev pub RunsRequest : Request → (old new : Streams) → Status → Type 0

@@ -55,25 +55,25 @@
 //! **`report`.** Of the same day, and with the same statuses, the report of the definition over the served
 //! calls, and nothing else.
 //!
-//! **`table`.** As `further_commands` says: the table of the input has no shorter way over a third floor
+//! **`table`.** As `case_commands` says: the table of the input has no shorter way over a third floor
 //! (status 0), or has one, with the first three floors (4); any other input is refused with its first bad
 //! line (5).
 //!
-//! **`whatif`.** As `further_commands` says: what the last call of a case costs with each car, and how much
+//! **`whatif`.** As `case_commands` says: what the last call of a case costs with each car, and how much
 //! more it costs with the nearest car than with the best one, all exactly (status 0), or some by two ends
 //! between which it lies (3), never where the limits are enough for each of the searches; any other input is
 //! refused with its first bad line, or because no call can be asked about (5).
 //!
-//! **`banks`.** As `group_commands` says: for each bank of the input the log of the day of its own rows alone,
+//! **`banks`.** As `day_commands` says: for each bank of the input the log of the day of its own rows alone,
 //! with no accepted call lost, and how many rows named no bank; status 0 where no accepted row of any bank has
 //! a bound below its cost, 3 where some has; any other input is refused with its first bad line (5).
 //!
-//! **`root`.** As `root_command` says: the best prices of turns at the root of a case, and the cheapest
+//! **`root`.** As `case_commands` says: the best prices of turns at the root of a case, and the cheapest
 //! plan in halves of their tours; status 0 exactly where the two meet, and then no prices and worths at the
 //! root have a greater bound, as the mixture shows that was written; 3 where they do not. Any other input
 //! is refused with its first bad line (5).
 //!
-//! **`audit`.** As `audit_command` says: of what `day` reads and the log that it wrote with certificates,
+//! **`audit`.** As `day_commands` says: of what `day` reads and the log that it wrote with certificates,
 //! either that nothing is found, with how many rows are accepted and how many of these have a bound below
 //! their cost (status 0), or what is found first (4); a bad line of the opening, of an answer or of a
 //! certificate, and an input that is too long, is refused (5).
@@ -92,10 +92,10 @@
 //! | `check` | `RunsCheck`: the verdict on what is stated (`IsVerdictOn`, `specs/CheckOutcome.antt`) |
 //! | `make` | `RunsMake`, `RunsSolvedCase` (`specs/MakeOutcome.antt`) |
 //! | `day`, `report` | `RunsDay`, `ReportsDay` (`specs/DayOutcome.antt` of `day_commands`) |
-//! | `table`, `whatif` | `RunsTable`, `RunsWhatIf` (`further_commands`) |
-//! | `banks` | `RunsBanks` (`group_commands`) |
-//! | `root` | `RunsRoot` (`root_command`) |
-//! | `audit` | `RunsAudit` (`audit_command`) |
+//! | `table`, `whatif` | `RunsTable`, `RunsWhatIf` (`case_commands`) |
+//! | `banks` | `RunsBanks` (`day_commands`) |
+//! | `root` | `RunsRoot` (`case_commands`) |
+//! | `audit` | `RunsAudit` (`day_commands`) |
 //!
 //! A further command has its words in `lift_words` and its function in a crate of its own on `command_ends`,
 //! which says how any command ends, and all of one that reads a whole text (`Runs`). Here it takes one arm of

@@ -13,7 +13,7 @@ use bank_days::{BankJobs, BankLog};
 use byte_streams::{Gate, OpenGate};
 use cert_checker::{Judging, JudgingCrew, Reason};
 use cert_claims::{Claims, Counting, CountingCrew};
-use group_commands::{GroupCrew, Searches};
+use day_commands::{GroupCrew, Searches};
 use kept_tours::Desk as LeafDesk;
 use pricing_rounds::Round;
 use pricing_search::{Desk, Searcher};

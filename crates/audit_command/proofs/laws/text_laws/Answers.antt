@@ -1,8 +1,0 @@
-use Rattle.audit_command.proofs.OneText.{one_end, one_text}
-use Rattle.audit_command.proofs.laws.text_laws.Goals as goal
-
-pub returns-clause-one : goal.returns-clause-one
-returns-clause-one c = one_text
-
-pub returns-clause-ends : goal.returns-clause-ends
-returns-clause-ends c = one_end

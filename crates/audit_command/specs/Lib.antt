@@ -1,4 +1,0 @@
-pub mod AuditTexts
-pub mod AuditOutcome
-pub mod WorkedTexts
-pub mod OneText

@@ -1,3 +1,0 @@
-pub mod TableOutcome
-pub mod WhatIfOutcome
-pub mod WorkedTexts

@@ -1,9 +1,0 @@
-use Rattle.std.proofs.Common.{refl}
-use Rattle.std.specs.Fmt.{digits}
-use Rattle.lift_text.specs.Text.{word, words, line}
-use Rattle.group_commands.specs.BanksOutcome.{bank_parts}
-use Rattle.group_commands.proofs.worked.worked_texts.Goals as goal
-
-pub returns : goal.returns
-unfolding word words line bank_parts digits
-returns c = record { two = refl; none = refl }

@@ -1,2 +1,0 @@
-pub mod BanksOutcome
-pub mod WorkedTexts

@@ -1,6 +1,0 @@
-use Rattle.std.proofs.Common.{◌≡◌, ◌++◌}
-use Rattle.root_command.specs.RootTexts.{price_lines}
-use Rattle.root_command.proofs.writing.put_prices.Given as goal
-
-abbrev pub invariant-loop-call : goal.invariant-loop-call
-invariant-loop-call l = l.out.items ≡ l.initial.out.items ++ price_lines l.snapshot l.prices l.call

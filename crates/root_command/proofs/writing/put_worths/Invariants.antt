@@ -1,6 +1,0 @@
-use Rattle.std.proofs.Common.{◌≡◌, ◌++◌}
-use Rattle.root_command.specs.RootTexts.{worth_lines}
-use Rattle.root_command.proofs.writing.put_worths.Given as goal
-
-abbrev pub invariant-loop-car : goal.invariant-loop-car
-invariant-loop-car l = l.out.items ≡ l.initial.out.items ++ worth_lines l.snapshot l.worths l.car

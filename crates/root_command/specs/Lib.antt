@@ -1,3 +1,0 @@
-pub mod RootTexts
-pub mod RootOutcome
-pub mod WorkedTexts
