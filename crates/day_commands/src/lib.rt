@@ -9,17 +9,19 @@
 //!   snapshot (`IsDayStopped`). With 5 the refusal line alone, or after the log of the rows that end within
 //!   the limit. With 6, 7 and 8 which rows were done and how much of their log was written, and with 6 nothing
 //!   only where no opening is whole, each line with its LF, among the bytes that were taken (`IsNotBegun`).
-//!   After each row that was done every accepted call is open, aboard or delivered (`RanWithin`). And the day
-//!   of an opening and rows comes to its end unless the source or the sink fails or memory runs out
-//!   (`Completes`).
+//!   After each row that was done every accepted call is open, aboard or delivered (`RanWithin`). Where a write
+//!   fails or memory runs out, at most 69,634 bytes were taken beyond the line of the row that was being
+//!   written or planned; since any write may fail, so it is at each of them. And the day of an opening and
+//!   rows comes to its end unless the source or the sink fails or memory runs out (`Completes`).
 //! - `report` (`ReportsDay`): the same day without a log, and with 0 and 3 the text of its report (`ReportDue`).
 //! - `banks` (`specs/BanksOutcome.antt`): of banks, each with a building and an opening snapshot, and of the rows
 //!   of all of them (`banks_form`) there is told, for each bank in the order of the input, its id and the log of
 //!   the day of its own rows alone, then how many rows named no bank (`AreTold`). Each row that is accepted has
 //!   a feasible plan, its cost and a bound that no feasible plan's cost is below, as a search within the limits
 //!   answers them; no accepted call of a bank is lost, and each boards once and is delivered once, for 1 to 16
-//!   workers. Status 0: no accepted row of any bank has a bound below its cost; 3: some has. Any other input is
-//!   refused (5). Nothing is written before all banks have ended.
+//!   workers. Status 0: no accepted row of any bank has a bound below its cost; 3: some has, and there the limits
+//!   are not enough for the state (`IsBankStopped`). Any other input is refused (5). Nothing is written before
+//!   all banks have ended.
 //! - `audit` (`specs/AuditOutcome.antt`): of a building, an opening snapshot of it, rows and the log of their day
 //!   with certificates. Status 0: nothing is found in it, and the line written tells how many rows are accepted
 //!   and how many of these have a bound below their cost; the log is that of the day of these rows by the

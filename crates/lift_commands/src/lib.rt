@@ -88,18 +88,16 @@
 //!
 //! | request | what is left of it |
 //! | --- | --- |
-//! | `solve` | `RunsSolve`: a solution of the case is told (`IsSolution`, `specs/SolveOutcome.antt` of `case_commands`) |
-//! | `check` | `RunsCheck`: the verdict on what is stated (`IsVerdictOn`, `specs/CheckOutcome.antt`) |
-//! | `make` | `RunsMake`, `RunsSolvedCase` (`specs/MakeOutcome.antt`) |
-//! | `day`, `report` | `RunsDay`, `ReportsDay` (`specs/DayOutcome.antt` of `day_commands`) |
-//! | `table`, `whatif` | `RunsTable`, `RunsWhatIf` (`case_commands`) |
-//! | `banks` | `RunsBanks` (`day_commands`) |
-//! | `root` | `RunsRoot` (`case_commands`) |
-//! | `audit` | `RunsAudit` (`day_commands`) |
+//! | `solve` | `RunsSolve`: a solution of the case is told (`IsSolution`, `SolveOutcome.antt` of `case_commands`) |
+//! | `check` | `RunsCheck`: the verdict on what is stated (`IsVerdictOn`, `CheckOutcome.antt`) |
+//! | `whatif`, `root`, `table` | `RunsWhatIf`, `RunsRoot`, `RunsTable` |
+//! | `make` | `RunsMake`, `RunsSolvedCase` (`MakeOutcome.antt`) |
+//! | `day`, `report` | `RunsDay`, `ReportsDay` (`DayOutcome.antt` of `day_commands`) |
+//! | `banks`, `audit` | `RunsBanks`, `RunsAudit` |
 //!
-//! A further command has its words in `lift_words` and its function in a crate of its own on `command_ends`,
-//! which says how any command ends, and all of one that reads a whole text (`Runs`). Here it takes one arm of
-//! `run_request`, a line of `RunsRequest` and one of `ReadsNothing`.
+//! A further command has its words in `lift_words` and its function beside those of cases or of days, on
+//! `command_ends`, which says how any command ends, and all of one that reads a whole text (`Runs`). Here it
+//! takes one arm of `run_request`, a line of `RunsRequest` and one of `ReadsNothing`.
 #![tactic(auto)]
 
 mod running;

@@ -34,8 +34,8 @@ returns-in-Err-NotTaken-clause-refuses g c = λ none.
     let old = streams left (g.K.Sink.taken c.args.sink.now) faults (g.K.Sink.faults c.args.sink.now) in
     let new = streams left (g.K.Sink.taken c.put.new.sink) faults (g.K.Sink.faults c.put.new.sink) in
     record {
-      ends = ends_put UsageDue old new usage_line Words c.put.result refl (λ wrote. wrote) c.put.ensures.put;
-      unread = refl;
+      ends = ends_put UsageDue old new usage_line Words c.put.result (refl {a = usage_line}) (λ wrote. wrote) c.put.ensures.put;
+      unread = refl {a = left};
       refuses = λ writes. inl (put_whole usage_line Words c.put.result _ _ _ _ c.put.ensures.put writes);
     })
 
